@@ -6,6 +6,7 @@ pub mod DeskLogs
 pub mod EventWords
 pub mod Faults
 pub mod HallLogs
+pub mod HaltedLogs
 pub mod HeardLines
 pub mod LeftBooks
 pub mod LoginGoesOn

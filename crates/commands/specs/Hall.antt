@@ -24,9 +24,10 @@ use Rattle.sasl_desk.specs.Events.{ClientEvent, sends, goes_away}
 use Rattle.sasl_desk.specs.Halls.{hall_lines, hall_bytes, IsSessionRun}
 use Rattle.sasl_desk.specs.Runs.{greets, hears, Call}
 use Rattle.sasl_desk.specs.Saved.{AreLinesSaved}
+use Rattle.command_io.specs.File.{IsFileUnwrittenOrNoMemory}
 use Rattle.command_io.specs.HeldBook.{IsReadBook, CannotOpenBook}
 use Rattle.command_io.specs.Input.{AreFirstLines}
-use Rattle.commands.specs.PrintedLog.{StopsAfter, StopsServing}
+use Rattle.commands.specs.PrintedLog.{StopsAfter, StopsServing, HaltsNumberIfUnsaved}
 
 -- an event of a hall: a client comes, and this is the server's part of its nonce; or the client of the session of this number sends a
 -- line or goes away, at this moment
@@ -89,6 +90,8 @@ pub record PrintsHallLog (IsStored : List ℕ → Type 0) (book : BookFields) (i
   pub printed : Appends old new (hall_bytes calls)
   -- the replies in the log are saved in the store
   pub saved : AreLinesSaved IsStored book (hall_lines calls) store
+  -- after a save that failed, the last line is `S HALT`
+  pub halts : HaltsNumberIfUnsaved store (hall_lines calls)
 
 -- after these calls of a hall the line says no event, or one of a session that is not open
 abbrev pub IsBadEventAfter : Accounts → List (Numbered Call) → (line : List ℕ) → Type 0
@@ -117,11 +120,13 @@ abbrev pub StopsHearing : (path : List ℕ) → Fault → Type 0
 StopsHearing path fault = StopsServing BadEvent path fault
 
 -- the fault that ends `hall`, and what is printed before it: the book can't be held or read, and nothing is printed; or the hall stops
--- hearing, and the log of what it heard may be printed. At a bad event this is the log of all lines before it.
+-- hearing, and the log of what it heard is printed, unless the output fails. Nothing is printed if the hall has not begun, since the book
+-- can't be saved or memory ran out. At a bad event all lines before it are heard.
 abbrev pub StopsHall : {File : Type 0} → (bytes_of written_to : File → Option (List ℕ)) → ArgMatches → Fault
     → (input old new : Option (List ℕ)) → Type 0
 StopsHall bytes_of written_to words fault input old new =
     (CannotOpenBook bytes_of (given_value words option.Book) fault × (new ≡ old))
     ⊎ (StopsHearing (given_value words option.Book) fault
-    × StopsAfter fault old new ((last : List (List ℕ)) × RunsHall bytes_of written_to input last old new)
+    × StopsAfter fault (IsFileUnwrittenOrNoMemory (given_value words option.Book) fault) old new
+    ((last : List (List ℕ)) × RunsHall bytes_of written_to input last old new)
     × (fault ≡ BadEvent → RunsToBadEvent bytes_of written_to input old new))

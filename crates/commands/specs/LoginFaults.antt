@@ -6,7 +6,7 @@ use Rattle.command_line.specs.declared.option_name.OptionName.TheVariants as opt
 use Rattle.command_line.specs.declared.fault.Fault.{Fault}
 use Rattle.command_line.specs.declared.fault.Fault.TheVariants.{Socket}
 use Rattle.command_words.specs.Values.{given_value, GivesBadValue, HasBadValue}
-use Rattle.command_io.specs.File.{IsFileUnreadOrNoMemory}
+use Rattle.command_io.specs.File.{IsFileUnreadOrNoMemory, IsFileUnwrittenOrNoMemory}
 use Rattle.command_io.specs.HeldBook.{CannotOpenBook}
 use Rattle.command_io.specs.Input.{IsInputUnreadOrNoMemory, HasBadPassword}
 use Rattle.commands.specs.Login.{PrintsLoginFront}
@@ -35,9 +35,12 @@ abbrev pub StopsTalking : (path : List ℕ) → Fault → Type 0
 StopsTalking path fault = StopsServing Socket path fault
 
 -- the fault that ends `login`, and what is printed before it: what it begins with is not there, and nothing is printed; or its talk
--- ends, and the front of a log may be printed
+-- ends, and the front of a log is printed, unless the output fails. Nothing is printed if the desk has not begun, since the socket can't be
+-- made, the book can't be saved or memory ran out.
 abbrev pub StopsLogin : {File : Type 0} → (bytes_of written_to : File → Option (List ℕ)) → ArgMatches → Fault
     → (input old new : Option (List ℕ)) → Type 0
 StopsLogin bytes_of written_to words fault input old new =
     (CannotPrepare bytes_of words input fault × (new ≡ old))
-    ⊎ (StopsTalking (given_value words option.Book) fault × StopsAfter fault old new (PrintsLoginFront bytes_of written_to words old new))
+    ⊎ (StopsTalking (given_value words option.Book) fault
+    × StopsAfter fault ((fault ≡ Socket) ⊎ IsFileUnwrittenOrNoMemory (given_value words option.Book) fault) old new
+    (PrintsLoginFront bytes_of written_to words old new))

@@ -4,12 +4,11 @@ ghost use Rattle.account_book.specs.SavedBooks.{HoldsAfterAttempts};
 ghost use Rattle.command_io.specs.HeldBook.{held_shown, HoldsItsBook};
 ghost use Rattle.commands.specs.Hall.{PrintsHallLog, RunsHall, StopsHall, StopsHearing};
 ghost use Rattle.commands.specs.inner.HallSteps.{PrintsToBadEvent};
-ghost use Rattle.commands.specs.PrintedLog.{StopsAfter};
+ghost use Rattle.commands.specs.PrintedLog.{StopsAfter, DoesNotBegin};
 
 mod event;
 mod logged_hall;
 
-use crate::printed_log::PrintedLog;
 use account_book::BookStore;
 use book_file::BookFileExt;
 use clap::ArgMatches;
@@ -21,6 +20,7 @@ use command_io::terminal::{TerminalInput, TerminalOutput};
 use command_line::{Fault, OptionName};
 use command_words::given;
 use logged_hall::LoggedHall;
+use sasl_log::OverWrite;
 use std::alloc::Global;
 use std::fs::Files;
 use std::io::{BufRead, Write};
@@ -76,7 +76,9 @@ where
     O: Write + Drop,
     ensures ok { OnOk result.0 (PrintsHallLog S.IsStored held.entry.keeper.book (I.remaining input.old) [] (S.facts result.2)
         (O.contents output) (O.contents result.1)) }
-    ensures err { IfErr result.0 (λ fault. StopsAfter fault (O.contents output) (O.contents result.1)
+    ensures err { IfErr result.0 (λ fault. StopsAfter fault
+        (DoesNotBegin held.entry.path.now held.entry.keeper.book (S.facts held.entry.keeper.store) (S.facts result.2) fault)
+        (O.contents output) (O.contents result.1)
         ((last : List (List ℕ)) × PrintsHallLog S.IsStored held.entry.keeper.book (I.remaining input.old) last (S.facts result.2)
         (O.contents output) (O.contents result.1))) }
     ensures bad { IsErrOf result.0 Fault.BadEvent
@@ -87,12 +89,12 @@ where
     ensures left { HoldsItsBook (held_shown S.facts held.entry) → HoldsAfterAttempts held.entry.keeper.book (S.facts result.2) }
 {
     let mut lines = Lines::new(input);
-    match LoggedHall::begin(alloc, held, PrintedLog::new(output)) {
+    match LoggedHall::begin(alloc, held, OverWrite::new(output)) {
         Ok(mut hall) => {
             let heard = hall.hear_lines(alloc, &mut lines);
             let (log, store) = hall.into_log_and_store();
-            (heard, log.into_output(), store)
+            (heard, log.into_writer(), store)
         }
-        Err((log, store, fault)) => (Err(fault), log.into_output(), store),
+        Err((log, store, fault)) => (Err(fault), log.into_writer(), store),
     }
 }

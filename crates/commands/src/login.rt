@@ -17,7 +17,7 @@ ghost use Rattle.commands.specs.Login.{EndsTalk, PrintsTalk, IsUserAsked, RunsLo
 ghost use Rattle.commands.specs.LoginFaults.{CannotPrepare, StopsLogin, StopsTalking};
 ghost use Rattle.commands.specs.Nonces.{AreNonces};
 ghost use Rattle.commands.specs.Talked.{LogSays, talked_shown};
-ghost use Rattle.commands.specs.PrintedLog.{StopsAfter};
+ghost use Rattle.commands.specs.PrintedLog.{StopsAfter, DoesNotBegin};
 
 mod client_end;
 mod clock;
@@ -27,7 +27,6 @@ mod options;
 mod socket;
 mod talk;
 
-use crate::printed_log::PrintedLog;
 use account_book::BookStore;
 use book_file::{BookFileExt, FileStore};
 use clap::ArgMatches;
@@ -42,7 +41,7 @@ use command_line::{Fault, OptionName};
 use command_words::given;
 use options::read_options;
 use sasl_desk::Moment;
-use sasl_log::{MAX_LINE_LEN, Sink, Source};
+use sasl_log::{MAX_LINE_LEN, OverWrite, Sink, Source};
 use scram_text::{NoncePart, Password};
 use socket::Connection;
 use std::alloc::Global;
@@ -201,7 +200,10 @@ where
         (O.contents output) (O.contents result.1)) }
     ensures talk { IfOk result.0 (λ passed. PrintsTalk login.entry.client.user login.entry.client.nonce login.entry.client.password
         (I.remaining login.entry.lines.input.now) (O.contents output) passed (O.contents result.1)) }
-    ensures err { IfErr result.0 (λ fault. StopsAfter fault (O.contents output) (O.contents result.1)
+    ensures err { IfErr result.0 (λ fault. StopsAfter fault
+        (DoesNotBegin login.entry.held.path.now login.entry.held.keeper.book (S.facts login.entry.held.keeper.store)
+        (S.facts result.2) fault)
+        (O.contents output) (O.contents result.1)
         (HasSavedLog S.IsStored (IsGiven G.moment) IsLogFront login.entry.held.keeper.book login.entry.server_nonce (S.facts result.2)
         (O.contents output) (O.contents result.1))) }
     ensures why { IfErr result.0 (StopsTalking login.entry.held.path.now) }
@@ -222,7 +224,7 @@ where
         alloc,
         held,
         connection.ends(),
-        PrintedLog::new(output),
+        OverWrite::new(output),
         clock,
     ) {
         Ok(mut talk) => {
@@ -235,9 +237,9 @@ where
                 &mut lines,
             );
             let (log, store) = talk.into_log_and_store();
-            (passed, log.into_output(), store)
+            (passed, log.into_writer(), store)
         }
-        Err((log, store, fault)) => (Err(fault), log.into_output(), store),
+        Err((log, store, fault)) => (Err(fault), log.into_writer(), store),
     }
 }
 

@@ -50,7 +50,7 @@ module _ {S : Type 0} {facts : S → StoreFacts} {IsStored : List ℕ → Type 0
         → Answers facts IsStored old (greets server_nonce) wire wire' none written new → none ≡ [] → Appends log.given log'.given written
         → StaysDeskLogWith facts IsStored IsNow server_nonce old log new log'
     greeting_keeps_log {server_nonce = server_nonce} a empty put =
-        next_call_keeps_log server_nonce (greets server_nonce) a.lines refl a.stands
+        next_call_keeps_log server_nonce (greets server_nonce) a.lines refl a.answers.stands
         (subst (λ (bytes : List ℕ). Appends log.given log'.given bytes)
         (a.logged ∙ ap (λ (l : List ℕ). l ++ log_bytes a.lines) empty) put)
 

@@ -25,6 +25,7 @@ use Rattle.commands.specs.Hall.{InputEvent, opens, does_at, IsBadEventAfter, Are
 use Rattle.commands.specs.inner.HallSteps.{IsBadEvent, IsHallLogOf, Hears, HearsLine, HearsUpTo, HearsAllLines, HearsFirstLines, LosesHallLog, MayHaveHeard, MeetsBadEvent, PrintsToBadEvent}
 use Rattle.commands.specs.PrintedLog.{StopsAfter}
 use Rattle.commands.proofs.lemmas.HallLogs.{hearings_join}
+use Rattle.commands.proofs.lemmas.HaltedLogs.{failed_store_ends_hall_log}
 
 -- a hall has come to a place in its input: hearing events from there on extends what it has heard since the start
 abbrev pub HallHasCome : {S : Type 0} → (S → StoreFacts) → (IsStored : List ℕ → Type 0) → (first : Option (List ℕ)) → (start : Hall S)
@@ -159,16 +160,17 @@ module _ {S : Type 0} {facts : S → StoreFacts} {IsStored : List ℕ → Type 0
         runs = λ n. (hall.stands.places n, hall.stands.session_runs n);
         is_front = log_is_a_front hall.stands;
         saved = log_is_saved hall.stands;
+        halts = failed_store_ends_hall_log hall.stands;
         printed = subst (λ (o : Option (List ℕ)). Appends before o (hall_bytes hall.calls)) (sym is)
             (subst (λ (o : Option (List ℕ)). Appends o log'.given (hall_bytes hall.calls)) was hall.logged);
       }
 
-  -- after a fault, a hall has printed nothing, or the log of what it heard of its input's first lines, or the output can't be written
-  pub hall_stops_after : (fault : Fault) → HearsFirstLines facts IsStored input old log new log' fault
-      → StopsAfter fault before after
+  -- after a fault, a hall that has begun has printed the log of what it heard of its input's first lines, or the output can't be written
+  pub hall_stops_after : {Unbegun : Type 0} (fault : Fault) → HearsFirstLines facts IsStored input old log new log' fault
+      → StopsAfter fault Unbegun before after
       ((last : List (List ℕ)) × PrintsHallLog IsStored book input last (facts new.keeper.store) before after)
-  hall_stops_after fault (inl ((output, failed), stands)) = inl (inl output)
-  hall_stops_after fault (inr (last, heard)) = inr (last, hall_prints_its_log heard)
+  hall_stops_after fault (inl ((output, failed), stands)) = inl output
+  hall_stops_after fault (inr (last, heard)) = inr (inr (last, hall_prints_its_log heard))
 
   -- a hall that meets a bad event prints the log of what it heard before, and the next line is bad after that
   pub hall_prints_to_bad_event : MeetsBadEvent facts IsStored input old log new log'

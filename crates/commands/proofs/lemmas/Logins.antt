@@ -24,27 +24,30 @@ use Rattle.commands.specs.Login.{EndsTalk, PrintsTalk}
 use Rattle.commands.specs.PrintedLog.{StopsAfter}
 use Rattle.commands.specs.Talked.{Talked}
 use Rattle.commands.specs.declared.login.client_end.User.{User}
+use Rattle.commands.proofs.lemmas.HaltedLogs.{failed_store_ends_desk_log}
 
 -- the log of a desk that began with this book, and what of it is printed
 module _ {S : Type 0} {facts : S → StoreFacts} {IsStored : List ℕ → Type 0} {IsNow : ℕ → Type 0} {book : BookFields}
     {server_nonce : List ℕ} {given before after : Option (List ℕ)} {old : Desk S} {log : SinkFacts} (was : given ≡ before)
     (begun : IsDeskLog facts IsStored IsNow book given server_nonce old log) where
-  -- after a fault a login has printed nothing, or its saved log, which is a front, or the output can't be written
-  pub login_stops_after : {new : Desk S} {log' : SinkFacts} {fault : Fault} → after ≡ log'.given
+  -- after a fault a login that has begun has printed its saved log, which is a front, or the output can't be written
+  pub login_stops_after : {Unbegun : Type 0} {new : Desk S} {log' : SinkFacts} {fault : Fault} → after ≡ log'.given
       → IsLogAfterFaultWith facts IsStored IsNow server_nonce old log new log' fault
-      → StopsAfter fault before after (HasSavedLog IsStored IsNow IsLogFront book server_nonce (facts new.keeper.store) before after)
-  login_stops_after is (inl ((output, failed), stands)) = inl (inl output)
+      → StopsAfter fault Unbegun before after
+      (HasSavedLog IsStored IsNow IsLogFront book server_nonce (facts new.keeper.store) before after)
+  login_stops_after is (inl ((output, failed), stands)) = inl output
   login_stops_after {log' = log'} is (inr stays) =
       let desk = stays book given begun in
       let bytes = log_bytes (run_lines desk.calls) in
-      inr (
+      inr (inr (
         bytes,
         log_is_a_front desk.stands,
         record { calls = desk.calls; place = desk.stands.place; is_run = desk.stands.is_run; requests = desk.requests; is_log = refl },
         subst (λ (o : Option (List ℕ)). Appends before o bytes) (sym is)
             (subst (λ (o : Option (List ℕ)). Appends o log'.given bytes) was desk.logged),
         log_is_saved desk.stands,
-      )
+        failed_store_ends_desk_log desk.stands,
+      ))
 
   -- a clean log of a desk is printed as the saved log
   pub clean_log_is_printed : {logged : Option (List ℕ)} {store : StoreFacts} → after ≡ logged

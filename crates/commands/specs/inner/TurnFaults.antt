@@ -2,6 +2,8 @@
 use Rattle.std.specs.Prelude.{ℕ, ◌≡◌, ◌≤◌, length, ◌⊎◌, true, List}
 use Rattle.std.specs.Io.KnownBytes.{Consumes, IsAtEnd}
 use Rattle.scram_text.specs.SplitLines.{LacksLf}
+use Rattle.account_book.specs.{BookFields}
+use Rattle.account_book.specs.Store.{StoreFacts}
 use Rattle.command_io.specs.File.{IsFileUnwrittenOrNoMemory}
 use Rattle.command_line.specs.declared.fault.Fault.{Fault}
 use Rattle.command_line.specs.declared.fault.Fault.TheVariants.{Socket, CannotWriteOutput, NoMemory}
@@ -9,15 +11,15 @@ use Rattle.sasl_log.specs.Sink.{SinkFacts}
 use Rattle.sasl_log.specs.Source.{SourceFacts}
 use Rattle.sasl_desk.specs.declared.fault.ServeFault.{ServeFault}
 use Rattle.sasl_desk.specs.declared.fault.ServeFault.TheVariants as serve
+use Rattle.commands.specs.PrintedLog.{DoesNotBegin}
 
 -- the log has failed, and that is the fault
 abbrev pub IsLogFault : (log : SinkFacts) → Fault → Type 0
 IsLogFault log fault = (fault ≡ CannotWriteOutput) × (log.failed ≡ true)
 
--- a desk or a hall can't begin: the log has failed; or it is as it was, and the book, whose file has this path, can't be saved, or
--- memory ran out
-abbrev pub FailsToBegin : (path : List ℕ) → (old new : SinkFacts) → Fault → Type 0
-FailsToBegin path old new fault = IsLogFault new fault ⊎ ((new ≡ old) × IsFileUnwrittenOrNoMemory path fault)
+-- a desk or a hall over this book can't begin: the log has failed; or it is as it was, and `DoesNotBegin` is true of the store
+abbrev pub FailsToBegin : (path : List ℕ) → BookFields → (old new : SinkFacts) → (store store' : StoreFacts) → Fault → Type 0
+FailsToBegin path book old new store store' fault = IsLogFault new fault ⊎ ((new ≡ old) × DoesNotBegin path book store store' fault)
 
 -- the book, whose file has this path, can't be saved, or memory ran out; or the log has failed
 abbrev pub IsUnsavedOrUnlogged : (path : List ℕ) → (log : SinkFacts) → Fault → Type 0

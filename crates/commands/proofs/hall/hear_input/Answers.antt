@@ -14,7 +14,7 @@ use Rattle.commands.proofs.hall.hear_input.Goals as goal
 pub returns-in-Ok-clause-ok : goal.returns-in-Ok-clause-ok
 returns-in-Ok-clause-ok g c =
     let before = ap (λ (f : SinkFacts). f.given) c.new.ensures in
-    let after = taken_output_holds_log g.O.Write.contents c.into_output.ensures c.into_log_and_store-log.ensures.log in
+    let after = taken_output_holds_log g.O.Write.contents c.into_writer.ensures c.into_log_and_store-log.ensures.log in
     rw c.into_log_and_store-log.ensures.store
     (on_ok_weaker c.hear_lines-heard.result
     (hall_prints_its_log before after c.in-Ok.ensures.log)
@@ -23,7 +23,7 @@ returns-in-Ok-clause-ok g c =
 pub returns-in-Ok-clause-err : goal.returns-in-Ok-clause-err
 returns-in-Ok-clause-err g c =
     let before = ap (λ (f : SinkFacts). f.given) c.new.ensures in
-    let after = taken_output_holds_log g.O.Write.contents c.into_output.ensures c.into_log_and_store-log.ensures.log in
+    let after = taken_output_holds_log g.O.Write.contents c.into_writer.ensures c.into_log_and_store-log.ensures.log in
     rw c.into_log_and_store-log.ensures.store
     (IfErr-weaker c.hear_lines-heard.result _ _
     (λ fault. hall_stops_after before after c.in-Ok.ensures.log fault)
@@ -31,25 +31,25 @@ returns-in-Ok-clause-err g c =
 
 pub returns-in-Err-clause-err : goal.returns-in-Err-clause-err
 returns-in-Err-clause-err g c =
-    failed_begin_prints_nothing _ _ _ _ _ _ _ (ap (λ (f : SinkFacts). f.given) c.new.ensures) c.into_output-in-Err.ensures
+    failed_begin_prints_nothing _ _ _ _ _ _ _ _ _ _ (ap (λ (f : SinkFacts). f.given) c.new.ensures) c.into_writer-in-Err.ensures
     c.in-Err.ensures.err
 
 pub returns-in-Ok-clause-bad : goal.returns-in-Ok-clause-bad
 returns-in-Ok-clause-bad g c = λ is.
     let before = ap (λ (f : SinkFacts). f.given) c.new.ensures in
-    let after = taken_output_holds_log g.O.Write.contents c.into_output.ensures c.into_log_and_store-log.ensures.log in
+    let after = taken_output_holds_log g.O.Write.contents c.into_writer.ensures c.into_log_and_store-log.ensures.log in
     rw c.into_log_and_store-log.ensures.store
     (hall_prints_to_bad_event before after c.in-Ok.ensures.log
     (rw c.new-lines.ensures.input at (c.hear_lines-heard.ensures.bad is)))
 
 pub returns-in-Err-clause-bad : goal.returns-in-Err-clause-bad
-returns-in-Err-clause-bad g c = λ is. absurd (failed_begin_excludes_bad_event _ _ _ _ c.in-Err.ensures.err (cc is))
+returns-in-Err-clause-bad g c = λ is. absurd (failed_begin_excludes_bad_event _ _ _ _ _ _ _ c.in-Err.ensures.err (cc is))
 
 pub returns-in-Ok-clause-why : goal.returns-in-Ok-clause-why
 returns-in-Ok-clause-why g c = rw c.in-Ok.ensures.path at c.hear_lines-heard.ensures.why
 
 pub returns-in-Err-clause-why : goal.returns-in-Err-clause-why
-returns-in-Err-clause-why g c = failed_begin_stops_hearing _ _ _ _ c.in-Err.ensures.err
+returns-in-Err-clause-why g c = failed_begin_stops_hearing _ _ _ _ _ _ _ c.in-Err.ensures.err
 
 pub returns-in-Ok-clause-left : goal.returns-in-Ok-clause-left
 returns-in-Ok-clause-left g c = λ holds.

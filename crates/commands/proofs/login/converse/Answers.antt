@@ -5,6 +5,7 @@ use Rattle.command_io.proofs.lemmas.Results.{handed_fault_keeps_fact}
 use Rattle.commands.specs.inner.DeskLogSteps.{IsLogAfterFaultWith}
 use Rattle.commands.specs.Talked.{talked_shown}
 use Rattle.commands.proofs.lemmas.DeskLogs.{fault_after_step_leaves_log, two_steps_keep_log}
+use Rattle.commands.proofs.lemmas.HaltedLogs.{failed_store_ends_desk_log}
 use Rattle.commands.proofs.login.converse.Goals as goal
 
 pub returns-in_err-hang_up-clause-after_fault : goal.returns-in_err-hang_up-clause-after_fault
@@ -32,4 +33,5 @@ returns-clause-clean g c = λ start before l.
       record { calls = desk.calls; place = desk.stands.place; is_run = desk.stands.is_run; requests = desk.requests; is_log = refl },
       desk.logged,
       log_is_saved desk.stands,
+      failed_store_ends_desk_log desk.stands,
     )

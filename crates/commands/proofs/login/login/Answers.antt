@@ -1,7 +1,7 @@
 use Rattle.std.proofs.Common.{inl, inr, refl}
 use Rattle.std.proofs.lemmas.Result.{IfErr-weaker}
 use Rattle.command_io.proofs.lemmas.Results.{if_err_both, if_ok_from_both}
-use Rattle.commands.proofs.lemmas.Cases.{second_case_weakens}
+use Rattle.commands.proofs.lemmas.Faults.{stop_weakens}
 use Rattle.commands.proofs.login.login.Goals as goal
 
 pub returns-in-Ok-open-clause-ok : goal.returns-in-Ok-open-clause-ok
@@ -41,7 +41,7 @@ returns-in-Ok-open-clause-err g c =
     IfErr-weaker c.talk_over-passed.result.0 _ _
     (λ fault stops. inr (
       rw c.in-Ok.ensures.path at stops.0,
-      second_case_weakens (λ printed. (
+      stop_weakens (λ unbegun. inr (rw c.in-Ok.ensures.path at unbegun.0)) (λ printed. (
         _,
         _,
         c.in-Ok.ensures.nonces,

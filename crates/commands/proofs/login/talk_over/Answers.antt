@@ -13,7 +13,7 @@ use Rattle.commands.proofs.login.talk_over.Goals as goal
 pub returns-in-Ok-clause-ok : goal.returns-in-Ok-clause-ok
 returns-in-Ok-clause-ok g c =
     let before = ap (λ (f : SinkFacts). f.given) c.new.ensures in
-    let after = taken_output_holds_log g.O.Write.contents c.into_output.ensures c.into_log_and_store-log.ensures.log in
+    let after = taken_output_holds_log g.O.Write.contents c.into_writer.ensures c.into_log_and_store-log.ensures.log in
     rw c.into_log_and_store-log.ensures.store
     (on_ok_weaker c.converse-passed.result
     (clean_log_is_printed before (c.in-Ok.ensures.log c.args.login.server_nonce) after)
@@ -22,7 +22,7 @@ returns-in-Ok-clause-ok g c =
 pub returns-in-Ok-clause-err : goal.returns-in-Ok-clause-err
 returns-in-Ok-clause-err g c =
     let before = ap (λ (f : SinkFacts). f.given) c.new.ensures in
-    let after = taken_output_holds_log g.O.Write.contents c.into_output.ensures c.into_log_and_store-log.ensures.log in
+    let after = taken_output_holds_log g.O.Write.contents c.into_writer.ensures c.into_log_and_store-log.ensures.log in
     rw c.into_log_and_store-log.ensures.store
     (IfErr-weaker c.converse-passed.result _ _
     (λ fault. login_stops_after before (c.in-Ok.ensures.log c.args.login.server_nonce) after)
@@ -31,14 +31,14 @@ returns-in-Ok-clause-err g c =
 pub returns-in-Ok-clause-talk : goal.returns-in-Ok-clause-talk
 returns-in-Ok-clause-talk g c =
     let before = ap (λ (f : SinkFacts). f.given) c.new.ensures in
-    let after = taken_output_holds_log g.O.Write.contents c.into_output.ensures c.into_log_and_store-log.ensures.log in
+    let after = taken_output_holds_log g.O.Write.contents c.into_writer.ensures c.into_log_and_store-log.ensures.log in
     IfOk-weaker c.converse-passed.result _ _
     (λ passed talk. ended_talk_is_printed _ _ _ _ _ _ _ _ _ passed talk before c.in-Ok.ensures.header after)
     c.converse-passed.ensures.talk
 
 pub returns-in-Err-clause-err : goal.returns-in-Err-clause-err
 returns-in-Err-clause-err g c =
-    failed_begin_prints_nothing _ _ _ _ _ _ _ (ap (λ (f : SinkFacts). f.given) c.new.ensures) c.into_output-in-Err.ensures
+    failed_begin_prints_nothing _ _ _ _ _ _ _ _ _ _ (ap (λ (f : SinkFacts). f.given) c.new.ensures) c.into_writer-in-Err.ensures
     c.in-Err.ensures.err
 
 pub returns-in-Ok-clause-left : goal.returns-in-Ok-clause-left
