@@ -16,9 +16,17 @@ pub(crate) fn concatenated<const N: usize>(front: &[u8], back: &[u8]) -> ArrayVe
     bytes
 }
 
-/// Whether the bytes are the same: `==`, with a clause that a caller's proof can cite. Not in constant time.
+/// Whether the bytes are the same. If there are as many of both, the steps are the same whichever byte differs; how long they take is
+/// not promised.
 pub(crate) fn are_same(one: &[u8], other: &[u8]) -> bool
     ensures { IsTrue result ↔ (one.now ≡ other.now) }
 {
-    one == other
+    if one.len() != other.len() {
+        return false;
+    }
+    let mut same = true;
+    for i in 0..one.len() {
+        same &= one[i] == other[i];
+    }
+    same
 }

@@ -56,7 +56,6 @@ impl Signing {
             return false;
         }
         let stored = self.mechanism.stored_key(&xor(proof, &signature));
-        // Not in constant time: the value compared with StoredKey is a hash, whose bytes no client can choose one by one.
         are_same(stored.as_slice(), self.stored.as_slice())
     }
 

@@ -4,6 +4,7 @@ ghost use Rattle.scram_ends.specs.Stages.{Answered};
 ghost use Rattle.scram_ends.specs.Login.{IsAuthentic};
 ghost use Rattle.scram_ends.specs.Client.{StandsForAnswered, IsNotAuthenticFault};
 
+use crate::bytes::are_same;
 use crate::client::{Authenticated, ClientFault, ClientTwo};
 use mac_core::Tag;
 use scram_text::{FinalResult, read_server_final};
@@ -43,10 +44,10 @@ impl ClientTwo {
         }
     }
 
-    // Whether the signature is the expected one. Not in constant time: it is valid for this login only, which ends here.
+    // Whether the signature is the expected one.
     fn is_expected(&self, signature: &Tag) -> bool
         ensures { IsTrue result ↔ (signature.now.items ≡ self.now.expected.items) }
     {
-        signature.as_slice() == self.expected.as_slice()
+        are_same(signature.as_slice(), self.expected.as_slice())
     }
 }
