@@ -134,7 +134,7 @@ install:
 	for it in $(notdir $(wildcard hosts/units/*)); do sed 's|/usr/local/|$(PREFIX)/|' "hosts/units/$$it" | \
 		install -D -m 644 /dev/stdin "$(DESTDIR)$(PREFIX)/lib/systemd/system/$$it" || exit 1; done
 	install -D -m 644 -t "$(DESTDIR)$(PREFIX)/share/doc/scramotp" $(DOCUMENTS)
-	install -D -m 644 -t "$(DESTDIR)$(PREFIX)/share/doc/scramotp/docs" docs/*.md
+	install -D -m 644 -t "$(DESTDIR)$(PREFIX)/share/doc/scramotp/docs" docs/*.md docs/*.png
 	install -D -m 644 -t "$(DESTDIR)$(PREFIX)/share/doc/scramotp/docs/editions" docs/editions/*.txt
 	install -D -m 644 -t "$(DESTDIR)$(PREFIX)/share/doc/scramotp/bench" bench/README.md
 	install -D -m 644 -t "$(DESTDIR)$(PREFIX)/share/doc/scramotp/plugins/cyrus" plugins/cyrus/README.md
@@ -169,7 +169,7 @@ test: needed
 	JOBS=$(JOBS) python3 tests/run.py --unproved
 
 prove: this_kit
-	$(TIMED) rt ci
+	$(TIMED) python3 tests/proved.py rt ci
 	@rm -f crates/scramotp/out/built_for
 	python3 tests/edits.py --built --share $(SHARE)
 	cd crates/c_library && rt lib --jobs $(JOBS)

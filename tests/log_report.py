@@ -24,19 +24,19 @@ from pathlib import Path
 from typing import Any
 
 import expected
+import picture
 import suite
 from audit_cases import TABLE
 from checks import equal, holds
 from clients import Account, book, dealt, escaped, gone, logged_in
 from expected import AUDITS, DATA, MECHS, base64_of, decoy_salt, edited_texts, numbered
+from picture import INCIDENT, TOOL
 from processes import Answer, ran
 from suite import PROGRAM, SEEDS, TOP, code, each, hotp, not_tested, program_on_path, totp
 
 sys.path.insert(0, str(TOP / "hosts"))
 from scramotp_host.rows import rows
 
-TOOL = TOP / "tools/log-report"
-INCIDENT = DATA / "reports" / "incident.log"
 ROWS_OF_INCIDENT = INCIDENT.with_suffix(".rows").read_text().splitlines()
 BOOK_OF_INCIDENT = INCIDENT.with_suffix(".toml")
 ANSWER_OF_INCIDENT = "clean sessions=23 accepted=5 codes=3"
@@ -352,6 +352,11 @@ def page_of(folder: str | Path, of_log: str | Path, log: str | Path, status: int
     return page
 
 
+def the_picture(folder: str) -> None:
+    """The picture in the documents is of the page that the tool makes."""
+    holds(picture.is_of(picture.page_of_incident(folder)), "docs/who_got_in.png is of another page: tests/picture.py makes it anew")
+
+
 def a_page(folder: str) -> None:
     """The page of the incident says who was let in and how often, whom someone has guessed at, what came of each session, and when."""
     log = Path(folder, "incident.log")
@@ -621,6 +626,7 @@ suite.run_all(
         a_table,
         for_other_programs,
         a_page,
+        the_picture,
         hostile_names,
         pages_of_faulty_logs,
         clients_that_are_not_known,
