@@ -18,7 +18,8 @@ any case, for use after an `rt ci`, whose libraries may be older files that it k
 edits.
 
 Refusals are kept on this machine, as `rt ci` keeps what it proved: by the checksum of everything that the trial read, which is the kit,
-this script, the edit, and the sources of its crate and of those below. A later run tries the other edits, and with --anew all.
+this script, the edit, and the sources of its crate and of those below. A later run tries the other edits, and with --anew all. What was
+proved of each crate is kept too (proved.py), so the first check of a crate is short after an `rt ci` or another run.
 
 With --share N a run tries about one of N edits, and sees of the others only that they apply. The same checksums choose them, so the same
 sources have the same share, and a change of a crate gives another share to it and to the crates above it.
@@ -46,6 +47,7 @@ from functools import cache
 from pathlib import Path
 
 from edit_sources import EDITED, TOP, Edit, Function, Unusable, edits_of, functions_of, read_edit
+from proved import begin, cache_home, keep, linked
 from rattle import Uses, below, kit, read_uses
 
 # The folders of a crate that a check reads.
@@ -99,8 +101,7 @@ class Refusals:
     """The refusals of a crate's edits in earlier runs: a file for each, named by the checksum of what was read."""
 
     def __init__(self, crate: str, uses: Uses) -> None:
-        cache_home = os.environ.get("XDG_CACHE_HOME") or Path.home() / ".cache"
-        self.folder = Path(cache_home) / "scramotp" / "refusals"
+        self.folder = cache_home() / "refusals"
         self.sum = hashlib.sha256(kit_version().encode())
         files = [Path(__file__), Path(__file__).with_name("edit_sources.py"), TOP / "crates.txt", TOP / "HANDLES"]
         crates = [TOP / "crates" / it for it in [*below(crate, uses), crate]]
@@ -247,12 +248,12 @@ class Count:
 
 
 class Rooms:
-    """The copies of one crate, each of which one check at a time uses. Another one is made where none is free: it begins with what the
-    crate's first check proved."""
+    """The copies of one crate, each of which one check at a time uses. Another one is made where none is free: it begins with what was
+    last proved of the crate."""
 
     def __init__(self, crate: str, uses: Uses, base: Path, folder: Path) -> None:
         self.make = lambda number: Room(crate, uses, base, folder / f"{crate}-{number}")
-        self.lock, self.free, self.made, self.seed = threading.Lock(), [], 0, folder / f"{crate}-seed"
+        self.crate, self.lock, self.free, self.made = crate, threading.Lock(), [], 0
 
     @contextmanager
     def one(self) -> Iterator[Room]:
@@ -263,8 +264,7 @@ class Rooms:
             number = self.made
         if room is None:
             room = self.make(number)
-            if self.seed.is_dir():
-                shutil.copytree(self.seed, room.folder / "kept", copy_function=proved)
+            begin(self.crate, room.folder / "kept")
         try:
             yield room
         finally:
@@ -272,19 +272,11 @@ class Rooms:
                 self.free.append(room)
 
 
-    def keep_seed(self) -> None:
+    def keep_proved(self) -> None:
         """Keeps what the first check proved."""
         with self.one() as room:
             if (room.folder / "kept").is_dir():
-                shutil.copytree(room.folder / "kept", self.seed, copy_function=proved)
-
-
-def proved(source: str, to: str) -> None:
-    """Copies a file of what was proved. A check replaces one of these, and changes none in its place, so it may be a second name."""
-    if source.endswith(".oantt"):
-        linked(source, to)
-    else:
-        shutil.copy2(source, to)
+                keep(room.folder / "kept", self.crate)
 
 
 class Trial:
@@ -362,7 +354,7 @@ def try_all(trials: list[tuple[Trial, list[Edit]]], jobs: int) -> None:
                 trial, batch = waiting.pop(done)
                 outcomes = done.result()
                 if others := left.pop(trial.crate, []):
-                    trial.rooms.keep_seed()
+                    trial.rooms.keep_proved()
                     for other in others:
                         submit(trial, other)
                 for edit in batch:
@@ -430,14 +422,6 @@ def build(base: Path, names: list[str], uses: Uses, are_built: bool) -> None:
             ran = run(["rt", "lib"], base / "crates" / name)
             if ran.returncode:
                 sys.exit(f"edits.py: {name} is not proved:\n{ran.stdout[-2000:]}")
-
-
-def linked(source: str, to: str) -> None:
-    """Gives a file a second name, or copies it if that is on another file system. No run writes to a file of a built library."""
-    try:
-        os.link(source, to)
-    except OSError:
-        shutil.copyfile(source, to)
 
 
 @cache
