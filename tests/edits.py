@@ -13,9 +13,11 @@ function fails that no edit changes, is tried in halves.
 An edit has the form that `rt help` describes, and changes src/ or specs/. An edit of a definition in specs/ belongs to no function, and
 is refused if a proof of the crate then fails. An edit that makes the same change as an earlier one of its crate counts as let through.
 Several checks run at the same time, each in a copy of its crate. The script works in a temporary folder, with the libraries that `rt ci`
-or `rt lib` left in crates/NAME/out/ if they are newer than their sources, and otherwise builds them there. With --built it takes them in
-any case, for use after an `rt ci`, whose libraries may be older files that it kept. `rt ci` shows whether the crates are proved without
-edits.
+or `rt lib` left in crates/NAME/out/ if they are newer than their sources, and otherwise builds them there. `rt ci` shows whether the
+crates are proved without edits.
+
+With --built it runs after an `rt ci`: it takes the libraries in any case, since they may be older files that `rt ci` kept, and leaves out
+the edits in must-fail/, which `rt ci` has tried.
 
 Refusals are kept on this machine, as `rt ci` keeps what it proved: by the checksum of everything that the trial read, which is the kit,
 this script, the edit, and the sources of its crate and of those below. A later run tries the other edits, and with --anew all. What was
@@ -307,10 +309,13 @@ class Trial:
                 self.tell(edit.name, Outcome(False, f"THE SAME CHANGE AS {earlier.name}"))
         return [*usable.values()]
 
-    def chosen(self, edits: list[Edit], share: int, anew: bool) -> list[Edit]:
-        """Those of the edits that this run has to try: the share, without what an earlier run refused, of which it tells."""
-        chosen = [it for it in edits if self.refusals.is_in_share(it, share)]
-        self.count.left = len(edits) - len(chosen)
+    def chosen(self, edits: list[Edit], share: int, anew: bool, is_after_ci: bool) -> list[Edit]:
+        """Those of the edits that this run has to try: the share, without those of must-fail/ if `rt ci` has just tried them, and without
+        what an earlier run refused, of which it tells."""
+        by_ci = {it.stem for it in self.source.glob("must-fail/*.edit")} if is_after_ci else set()
+        own = [it for it in edits if it.name not in by_ci]
+        chosen = [it for it in own if self.refusals.is_in_share(it, share)]
+        self.count.left = len(own) - len(chosen)
         kept = {it.name: outcome for it in ([] if anew else chosen) if (outcome := self.refusals.kept(it))}
         for name, outcome in kept.items():
             self.tell(name, outcome, " before, with the same sources")
@@ -455,7 +460,7 @@ def main() -> int:
     parser = argparse.ArgumentParser(description="Tries the wrong bodies of each crate's must-fail/ and edits.txt.")
     parser.add_argument("--jobs", type=int, default=default_jobs(), metavar="N", help="checks side by side (%(default)s)")
     parser.add_argument("--anew", action="store_true", help="also what an earlier run refused with the same sources")
-    parser.add_argument("--built", action="store_true", help="the libraries in out/ are those of these sources: rt ci has just left them")
+    parser.add_argument("--built", action="store_true", help="after rt ci, which has left the libraries in out/, and tried must-fail/")
     parser.add_argument("--share", type=int, default=1, metavar="N", help="about one of N edits, chosen by the sources (all)")
     parser.add_argument("--self-test", action="store_true", help="only the test of this script, in the smallest crate")
     parser.add_argument("crates", nargs="*", metavar="CRATE", help="the edits of these crates (those of each that has a file edits.txt)")
@@ -481,7 +486,7 @@ def main() -> int:
                 with trial.rooms.one() as room:
                     self_test(room, found)
         if not options.self_test:
-            try_all([(it, it.chosen(found, options.share, options.anew)) for it, found in read], options.jobs)
+            try_all([(it, it.chosen(found, options.share, options.anew, options.built)) for it, found in read], options.jobs)
     tell_times(trials)
     counts = [it.count for it in trials]
     refused, failed, before, left = (sum(getattr(it, of) for it in counts) for of in ("refused", "failed", "before", "left"))
