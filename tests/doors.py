@@ -143,6 +143,7 @@ none:
   driver = appendfile
   file = /dev/null
   user = nobody
+begin authenticators
 """
     for name in ["key.pem", "cert.pem"]:
         files[name].chmod(0o644)

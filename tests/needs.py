@@ -30,9 +30,10 @@ FOR_PARTS |= {"/usr/include/sasl/saslplug.h": "libsasl2-dev", "/usr/lib/x86_64-l
 FOR_PARTS |= {"/usr/lib/x86_64-linux-gnu/sasl2/libsasldb.so": "libsasl2-modules-db", "sasl-sample-server": "sasl2-bin"}
 FOR_PARTS |= {"slapd": "slapd", "ldapwhoami": "ldap-utils", "valgrind": "valgrind", "clang": "clang"}
 # Exim can't be installed beside Postfix. So it is unpacked here, with the libraries that it needs: outside the repository, in which rt
-# refuses links, and where the user as whom it runs can enter.
+# refuses links, and where the user as whom it runs can enter. Its packages are kept there too, for the machine of systemd.py.
 EXIM = Path(os.environ.get("EXIM") or "/var/cache/scramotp/exim")
-OF_EXIM = ["exim4-daemon-heavy", "libspf2-2", "libmariadb3", "libidn12"]
+PACKAGES = EXIM / "packages"
+OF_EXIM = ["exim4-daemon-heavy", "exim4-base", "exim4-config", "libspf2-2", "libmariadb3", "libidn12"]
 # Where servers are, which not every PATH has.
 SERVERS = "/usr/local/sbin:/usr/sbin:/sbin"
 OLDEST_PYTHON = (3, 11)
@@ -55,7 +56,7 @@ def lacking(commands: Iterable[str]) -> list[str]:
 def install() -> None:
     """Installs the packages of what is lacking, and fails with what apt-get says."""
     packages = sorted({package for it in lacking([*COMMANDS, *FOR_PARTS]) for package in (COMMANDS | FOR_PARTS)[it].split()})
-    if not packages and EXIM.exists():
+    if not packages and PACKAGES.exists():
         return
     if not shutil.which("apt-get") or os.geteuid():
         print(f"needs.py: not installed, which takes root and apt-get: {' '.join([*packages, *OF_EXIM])}", file=sys.stderr)
@@ -65,7 +66,7 @@ def install() -> None:
     if packages:
         words = ["install", "--quiet", "--yes", "--no-install-recommends", *packages]
         subprocess.run(["apt-get", *words], env=environment, check=True)
-    if not EXIM.exists():
+    if not PACKAGES.exists():
         unpack_exim()
 
 
@@ -74,12 +75,12 @@ def unpack_exim() -> None:
     with tempfile.TemporaryDirectory() as folder:
         os.chmod(folder, 0o777)  # apt-get fetches as another user
         subprocess.run(["apt-get", "download", "--quiet", *OF_EXIM], cwd=folder, check=True)
-        to = Path(folder, "exim")
+        EXIM.mkdir(parents=True, exist_ok=True)
         for package in Path(folder).glob("*.deb"):
-            subprocess.run(["dpkg", "-x", package, to], check=True)
-        (to / "usr/sbin/exim4").chmod(0o755)
-        EXIM.parent.mkdir(parents=True, exist_ok=True)
-        shutil.move(to, EXIM)
+            subprocess.run(["dpkg", "-x", package, EXIM], check=True)
+        (EXIM / "usr/sbin/exim4").chmod(0o755)
+        shutil.copytree(folder, PACKAGES)
+        PACKAGES.chmod(0o755)
 
 
 def has_user() -> bool:
