@@ -4,12 +4,13 @@
 Usage: doors.py PROGRAM [TEST ..]
 
 Postfix, Exim and Dovecot serve on the loopback, over TLS, configured as docs/DOORS.md says. msmtp, gsasl, curl, swaks and mbsync log in by
-SCRAM-SHA-256, SCRAM-SHA-1, PLAIN and LOGIN, with the right password, a wrong one, and names that have no account or are odd. The journal of
-the door has to say the same as the client. `needs.py --install` installs these servers and clients; Exim, which can't be installed beside
-Postfix, it unpacks. What is missing is not tested, and said.
+SCRAM-SHA-256, SCRAM-SHA-1, PLAIN and LOGIN, with the right password, a wrong one, and names that have no account or are odd, and act as
+others. The journal of the door has to say the same as the client. `needs.py --install` installs these servers and clients; Exim, which
+can't be installed beside Postfix, it unpacks. What is missing is not tested, and said.
 """
 import contextlib
 import os
+import re
 import smtplib
 import ssl
 import subprocess
@@ -29,8 +30,8 @@ from suite import PROGRAM, TOP, blocks_of
 # Gives Exim a user that the machine has not.
 WRAPPER = "/usr/lib/x86_64-linux-gnu/libnss_wrapper.so"
 NAME, PASSWORD = "alice@example.org", "wonder land"
-# Who she may act as, and a name with the characters that SCRAM escapes.
-OTHER, ODD = "bob@example.org", "x=y,z"
+# Who she may act as, a name with the characters that SCRAM escapes, and who that one may act as.
+OTHER, ODD, LIST = "bob@example.org", "x=y,z", "list=a,b"
 SCRAMS = ["SCRAM-SHA-256", "SCRAM-SHA-1"]
 BY_PASSWORD = ["PLAIN", "LOGIN"]
 PAGE = suite.document("docs/DOORS.md")
@@ -65,11 +66,12 @@ def certificate(folder: str) -> dict[str, Path]:
 
 
 def book_of_users(folder: str) -> str:
-    """A book with two users, each with keys for both mechanisms."""
+    """A book with two users, each with keys for both mechanisms, and another name to act as."""
     path = Path(folder, "users.toml")
     for name, password in [(NAME, PASSWORD), (ODD, "comma")]:
         equal(ran([PROGRAM, "enrol", "--book", path, "--name", name], f"{password}\n").status, 0, "enrol")
-    return path.read_text().replace("act_as = []", f'act_as = ["{OTHER}"]', 1)
+    before, middle, after = path.read_text().split("act_as = []")
+    return f'{before}act_as = ["{OTHER}"]{middle}act_as = ["{LIST}"]{after}'
 
 
 @contextlib.contextmanager
@@ -348,12 +350,19 @@ def logins_at_postfix(folder: str) -> None:
             smtp_answers(folder, port, door, 535, 454)
 
 
+def has_exim(what: str, *needed: str) -> bool:
+    """Whether Exim is installed or unpacked, and the rest is there."""
+    if Path("/usr/sbin/exim4").exists():
+        return has(what, *needed)
+    if (EXIM / "usr/sbin/exim4").exists():
+        return has(what, *needed, WRAPPER)
+    suite.not_tested(f"{what}, since Exim is neither installed nor unpacked")
+    return False
+
+
 def logins_at_exim(folder: str) -> None:
     """Exim."""
-    is_installed = Path("/usr/sbin/exim4").exists()
-    if not is_installed and not (EXIM / "usr/sbin/exim4").exists():
-        suite.not_tested("Exim, since it is neither installed nor unpacked")
-    elif has("Exim", *CLIENTS, *([] if is_installed else [WRAPPER])):
+    if has_exim("Exim", *CLIENTS):
         with door_in(folder, 24) as door, exim(folder) as port:
             try_clients(folder, port, door, OF_SMTP)
             smtp_answers(folder, port, door, 535, 435)
@@ -409,24 +418,55 @@ def mails_by_imap(folder: str) -> None:
         equal(sum("Subject: of Alice" in text for text in found), 1, "the mails that were fetched", found)
 
 
-def logins_as_another(folder: str) -> None:
-    """A user acts at Postfix as another, if the book says that she may. The journal has both names, and Postfix takes a mail as from the
-    other."""
-    if not has("a login as another", "postfix", *CLIENTS[:3]):
-        return
-    with door_in(folder, 4) as door, postfix(folder, postfix_settings(folder)) as port:
-        for by, mechanism in [*((by_gsasl, it) for it in [*SCRAMS, "PLAIN"]), (by_curl, "PLAIN")]:
-            for act_as in OTHER, "root":
-                before = len(door.notes("login"))
-                answer = by(folder, port, mechanism, NAME, PASSWORD, act_as=act_as)
-                equal(answer.status == 0, act_as == OTHER, "whether the client is let in", by.__name__, mechanism, act_as, answer)
-                until(lambda: len(door.notes("login")) > before, "the journal should have the login")
-                due = f"name={NAME} act_as={OTHER} " if act_as == OTHER else f"outcome=refused mechanism={mechanism} name={NAME} "
-                holds(due in door.notes("login")[before], "the journal does not say so", due, door.notes("login")[before])
-        log = Path(folder, "postfix/log")
-        until(lambda: f"sasl_method=PLAIN, sasl_username={OTHER}\n" in log.read_text(), "Postfix should take the mail as from the other")
+# Who logs in, by which password, and as whom; whether the book allows that, and how a first message of SCRAM has both names.
+ACTORS = [
+    (NAME, PASSWORD, OTHER, True, "a=bob@example.org,n=alice@example.org,"),
+    (NAME, PASSWORD, "root", False, "a=root,n=alice@example.org,"),
+    (ODD, "comma", LIST, True, "a=list=3Da=2Cb,n=x=3Dy=2Cz,"),
+    (ODD, "comma", OTHER, False, "a=bob@example.org,n=x=3Dy=2Cz,"),
+]
 
 
-TESTS = [logins_at_postfix, logins_at_exim, logins_at_dovecot, logins_by_pop3, mails_by_imap, logins_as_another, differences_from_dovecot]
+def act_as_others(folder: str, port: int, door: Door, log: str, pattern: str, protocol: str = "smtp") -> None:
+    """Users act as others at a server, if the book says that they may. The journal and the log of the hall have both names, and the
+    server's log, in which this pattern finds names, has the other one alone."""
+    ways = [*((by_gsasl, it) for it in [*SCRAMS, "PLAIN"]), (by_curl, "PLAIN")]
+    for by, mechanism, (name, password, act_as, may, _) in [(*way, actor) for way in ways for actor in ACTORS]:
+        before = len(door.notes("login"))
+        answer = by(folder, port, mechanism, name, password, protocol, act_as)
+        equal(answer.status == 0, may, "whether the client is let in", by.__name__, mechanism, act_as, answer)
+        until(lambda: len(door.notes("login")) > before, "the journal should have the login")
+        names = [f'"{it}"' if "=" in it else it for it in (name, act_as)]
+        due = f"outcome={'accepted' if may else 'refused'} mechanism={mechanism} name={names[0]} " + f"act_as={names[1]} " * may
+        holds(due in door.notes("login")[before], "the journal does not say so", due, door.notes("login")[before])
+    logged = "".join(it.read_text() for it in door.logs.glob("*.log"))
+    equal([logged.count(message) for *_, message in ACTORS], [len(ways)] * len(ACTORS), "the messages in the log of the hall", logged)
+    until(lambda: {*re.findall(pattern, Path(folder, log).read_text())} == {OTHER, LIST}, f"{log} should have the other names alone")
+
+
+def others_at_postfix(folder: str) -> None:
+    """Users act as others at Postfix."""
+    if has("a login as another at Postfix", "postfix", *CLIENTS[:3]):
+        with door_in(folder, 8) as door, postfix(folder, postfix_settings(folder)) as port:
+            act_as_others(folder, port, door, "postfix/log", "sasl_method=PLAIN, sasl_username=(.*)")
+
+
+def others_at_exim(folder: str) -> None:
+    """Users act as others at Exim."""
+    if has_exim("a login as another at Exim", *CLIENTS[:3]):
+        with door_in(folder, 8) as door, exim(folder) as port:
+            act_as_others(folder, port, door, "exim/mainlog", " A=scramotp_plain:(.*) S=")
+
+
+def others_at_dovecot(folder: str) -> None:
+    """Users act as others at Dovecot. Each other one has a mailbox."""
+    if has("a login as another at Dovecot", "dovecot", "/usr/lib/dovecot/imap-login", *CLIENTS[:3]):
+        with mailboxes(folder, 8) as (door, homes, port, _):
+            act_as_others(folder, port, door, "dovecot/log", "Login: user=<(.*)>, method=PLAIN,", "imap")
+        equal(sorted(it.name for it in homes.iterdir()), [OTHER, LIST], "who has a mailbox")
+
+
+TESTS = [logins_at_postfix, logins_at_exim, logins_at_dovecot, logins_by_pop3, mails_by_imap]
+TESTS += [others_at_postfix, others_at_exim, others_at_dovecot, differences_from_dovecot]
 
 suite.run_all(TESTS)
