@@ -3,14 +3,12 @@
 
 Usage: pam.py PROGRAM [TEST ..]
 
-The commands are first run by themselves, as pam_exec runs them, with hostile input among it. Then pamtester asks PAM, and the real sshd
-lets in by a key and a code, each with the services that docs/DOORS.md shows. A code lets in once. The log of the logins is audited.
-Needs pamtester and libpam-wrapper, which lets PAM read its services from a folder; and sshd needs root.
+The commands are first run by themselves, as pam_exec runs them, with hostile input among it. Then pamtester asks PAM, with the services
+that docs/DOORS.md shows. The log of the logins is audited. Needs pamtester and libpam-wrapper, which lets PAM read its services from a
+folder. systemd.py has codes at a real sshd.
 """
 import contextlib
 import os
-import socket
-import subprocess
 from collections.abc import Iterator
 from pathlib import Path
 
@@ -27,8 +25,6 @@ LOGIN, CODE = TOP / "hosts/check-login", TOOLS / "check-code"
 USER = Account("user", "SCRAM-SHA-256")
 PASSWORD = f"password of {USER.name}"
 WRAPPER = "/usr/lib/x86_64-linux-gnu/libpam_wrapper.so"
-# Who a client of sshd logs in as.
-SELF = "root"
 SERVICES = [block for title, _, block in blocks_of(suite.document("docs/DOORS.md")) if title == "PAM"]
 
 
@@ -120,21 +116,14 @@ def service(folder: str, name: str, block: int) -> dict[str, str]:
     services.mkdir(exist_ok=True)
     path = f"/usr/bin/env PATH={program_on_path(folder)['PATH']} "
     text = SERVICES[block].replace("/usr/local/share/scramotp/check-login", f"{path}{LOGIN}")
-    text = text.replace("/usr/local/share/scramotp/check-code", f"{path}{CODE}").replace("/run/scramotp/socket", f"{folder}/socket")
-    (services / name).write_text(text.replace("/etc/scramotp/codes.toml", f"{folder}/book.toml"))
+    (services / name).write_text(text.replace("/run/scramotp/socket", f"{folder}/socket"))
     return {**os.environ, "LD_PRELOAD": WRAPPER, "PAM_WRAPPER": "1", "PAM_WRAPPER_SERVICE_DIR": str(services)}
-
-
-def is_there(*commands: str) -> bool:
-    """Whether these commands and the library of PAM's wrapper are there. Says what is not tested if not."""
-    if missing := needs.lacking([*commands, WRAPPER]):
-        suite.not_tested(f"PAM itself, since there is no {', '.join(missing)}")
-    return not missing
 
 
 def by_pamtester(folder: str) -> None:
     """PAM lets in by a password, and by a password and a code in one line, as its services of docs/DOORS.md say."""
-    if not is_there("pamtester"):
+    if missing := needs.lacking(["pamtester", WRAPPER]):
+        suite.not_tested(f"PAM itself, since there is no {', '.join(missing)}")
         return
 
     def authenticates(name: str, environment: dict[str, str], user: str, text: str) -> Answer:
@@ -156,46 +145,4 @@ def by_pamtester(folder: str) -> None:
     is_clean(folder, 5, 3, 1)
 
 
-def free_port() -> int:
-    """A port of this machine that nobody listens at."""
-    with socket.socket() as found:
-        found.bind(("127.0.0.1", 0))
-        return found.getsockname()[1]
-
-
-def by_sshd(folder: str) -> None:
-    """sshd lets in by a key and a code, as its service of docs/DOORS.md says. The code lets in once."""
-    if not is_there("sshd", "ssh", "ssh-keygen") or not suite.is_root():
-        return
-    here, port = Path(folder), free_port()
-    here.chmod(0o755)
-    (here / "book.toml").write_text(suite.BOOK_OF_USER + f"\n[accounts.{SELF}]\n" + hotp(look_ahead=0, limit=9, name=SELF))
-    for name in ("host", "key"):
-        subprocess.run(["ssh-keygen", "-q", "-t", "ed25519", "-N", "", "-f", here / name], check=True)
-    (here / "sshd_config").write_text(
-        f"ListenAddress 127.0.0.1:{port}\nHostKey {here}/host\nPidFile none\nStrictModes no\nPermitRootLogin yes\nUsePAM yes\n"
-        f"AuthorizedKeysFile {here}/key.pub\nKbdInteractiveAuthentication yes\nAuthenticationMethods publickey,keyboard-interactive\n"
-    )
-    Path("/run/sshd").mkdir(exist_ok=True)
-    server = Running([needs.found("sshd"), "-D", "-e", "-f", here / "sshd_config"], env=service(folder, "sshd", 2))
-    until(lambda: is_served(port), "sshd should listen")
-    asks = here / "asks"
-    options = ["StrictHostKeyChecking=no", f"UserKnownHostsFile={here}/known", "NumberOfPasswordPrompts=1", "IdentitiesOnly=yes"]
-    words = ["ssh", "-F", "none", "-p", str(port), "-i", here / "key", *[word for it in options for word in ("-o", it)]]
-    for trial, (text, due) in each([(CODES[0], (0, "in\n")), (CODES[0], (255, "")), ("000000", (255, "")), (CODES[1], (0, "in\n"))]):
-        with trial:
-            asks.write_text(f"#!/bin/sh\necho {text}\n")
-            asks.chmod(0o755)
-            environment = {**os.environ, "SSH_ASKPASS": str(asks), "SSH_ASKPASS_REQUIRE": "force"}
-            answer = ran([*words, f"{SELF}@127.0.0.1", "echo in"], env=environment)
-            equal((answer.status, answer.output), due, "what ssh says to the code", text, answer.faults)
-    server.process.terminate()
-
-
-def is_served(port: int) -> bool:
-    """Whether somebody listens at a port of this machine."""
-    with socket.socket() as client:
-        return client.connect_ex(("127.0.0.1", port)) == 0
-
-
-suite.run_all([passwords, passwords_with_codes, codes, by_pamtester, by_sshd])
+suite.run_all([passwords, passwords_with_codes, codes, by_pamtester])

@@ -1,19 +1,22 @@
 #!/usr/bin/env python3
-"""Runs the units of hosts/units, as the package for Debian installs them, by a real systemd, and what docs/DOORS.md types in ten minutes.
+"""Runs the units of hosts/units, as the package for Debian installs them, by a real systemd, and what docs/DOORS.md types for each server.
 
 Usage: systemd.py PROGRAM [TEST ..]
 
 It is that of a machine of the test's own, which booted.py makes of this one: so root has to run this, where systemd and dpkg-deb are
 installed, and namespaces can be made.
 """
+import base64
 import re
 import shutil
+import time
 from pathlib import Path
 
 import suite
 from booted import Machine, booted
 from checks import equal, holds
 from clients import Account, book
+from expected import code
 from mail_servers import Server
 from needs import PACKAGES, lacking
 from processes import ran, until
@@ -141,6 +144,40 @@ def dovecot_in_ten_minutes(folder: str) -> None:
         in_ten_minutes(folder, "Dovecot", "INBOX", f"{SNAKEOIL}{links}; systemctl start dovecot", "ls -d /srv/mail/user/mail")
 
 
+# Makes a user who logs in by a key, and asks no more than once for a code, which a program answers.
+BY_KEY = """systemctl start systemd-user-sessions ssh
+useradd --create-home --shell /bin/sh user
+ssh-keygen -q -t ed25519 -N '' -f .ssh/id_ed25519
+install -D -o user -m 600 .ssh/id_ed25519.pub ~user/.ssh/authorized_keys
+printf 'NumberOfPasswordPrompts 1\nStrictHostKeyChecking no\nLogLevel ERROR\n' >.ssh/config
+ssh user@localhost echo in
+"""
+ASKED = """printf '#!/bin/sh\necho "$*" >asked; echo %s' {} >answers
+chmod 700 answers
+SSH_ASKPASS_REQUIRE=force SSH_ASKPASS=~/answers ssh user@localhost echo in
+"""
+
+
+def codes_for_sshd(folder: str) -> None:
+    """What the page types for sshd, with the block that makes a token: after a key a code lets in once, as the book then says, and then
+    only the next one does."""
+    if not can_boot("codes for sshd") or not has("codes for sshd", "sshd", "ssh", "ssh-keygen", "xxd"):
+        return
+    with booted(folder) as machine:
+        equal(machine.does(BY_KEY), "in\n", "a login by the key alone")
+        machine.does(typed("Codes for sshd"))
+        made = [text for title, _, text in suite.blocks_of(suite.TOP / "docs/OPERATING.md") if title == "Give a user one-time codes"][0]
+        secret = machine.does("set +e; cd /etc/scramotp\n" + made.replace("name=user@example.org", "name=user"))
+        now = int(time.time()) // 30
+        for step, status, state in [(now, 0, f"last {now}, 0"), (now, 255, f"last {now}, 1"), (now + 1, 0, f"last {now + 1}, 0")]:
+            answer = machine.runs(ASKED.format(code(base64.b32decode(secret.strip()), step)))
+            said = (answer.status, answer.output)
+            equal(said, (status, "" if status else "in\n"), "what ssh says to the code of step", step - now, answer.faults)
+            told = machine.does("cat asked; cd /etc/scramotp; tools/list-accounts book.toml")
+            due = f"(user@localhost) Password: \nuser: sha1 keys, sha256 keys, totp token ({state} failures)\n"
+            equal(told, due, "the prompt, and what the book has")
+
+
 def has(what: str, *commands: str) -> bool:
     """Whether these commands and files are there. If not, the script says what it does not test."""
     if missing := lacking(commands):
@@ -153,4 +190,4 @@ def logs_of(machine: Machine) -> list[str]:
     return machine.does("ls /var/lib/scramotp/logs/*.log").split()
 
 
-suite.run_all([a_unit_at_work, postfix_in_ten_minutes, exim_in_ten_minutes, dovecot_in_ten_minutes])
+suite.run_all([a_unit_at_work, postfix_in_ten_minutes, exim_in_ten_minutes, dovecot_in_ten_minutes, codes_for_sshd])
