@@ -22,6 +22,7 @@ import needs
 import suite
 from checks import equal, holds
 from clients import Account, book
+from limits import limit
 from mail_servers import Door, Server, dovecot_auth, free_port, listens, postfix
 from needs import EXIM
 from processes import Answer, ran, until
@@ -155,25 +156,16 @@ begin authenticators
         yield port
 
 
-@contextlib.contextmanager
-def dovecot(folder: str) -> Iterator[tuple[int, int]]:
-    """Dovecot's servers of IMAP and POP3, with the settings of the page. Gives their ports."""
-    place, files, port, other = Path(folder, "dovecot"), certificate(folder), free_port(), free_port()
-    place.mkdir()
-    place.chmod(0o755)
-    own = f"""base_dir = {place}/run
-state_dir = {place}/state
-log_path = {place}/log
-protocols = imap{" pop3" if Path(POP3).exists() else ""}
+# What Dovecot has besides the settings of the page: this, and what differs between its versions.
+OF_DOVECOT = """base_dir = {0}/run
+state_dir = {0}/state
+log_path = {0}/log
 listen = 127.0.0.1
 ssl = required
-ssl_cert = <{files["cert.pem"]}
-ssl_key = <{files["key.pem"]}
-mail_location = maildir:~/mail
 first_valid_uid = 1
 service imap-login {{
   inet_listener imap {{
-    port = {port}
+    port = {1}
   }}
   inet_listener imaps {{
     port = 0
@@ -181,17 +173,47 @@ service imap-login {{
 }}
 service pop3-login {{
   inet_listener pop3 {{
-    port = {other}
+    port = {2}
   }}
   inet_listener pop3s {{
     port = 0
   }}
 }}
 """
-    page = configuration("Dovecot", {"/run/scramotp/auth": f"{folder}/auth", "/run/scramotp/master": f"{folder}/master"})
-    (place / "conf").write_text(own + page)
-    with process(["/usr/sbin/dovecot", "-F", "-c", place / "conf"], port, place / "output"):
+OF_2_3 = """ssl_cert = <{0}/../cert.pem
+ssl_key = <{0}/../key.pem
+mail_location = maildir:~/mail
+"""
+OF_2_4 = """dovecot_config_version = 2.4.0
+dovecot_storage_version = 2.4.0
+ssl_server_cert_file = {0}/../cert.pem
+ssl_server_key_file = {0}/../key.pem
+mail_driver = maildir
+mail_path = ~/mail
+"""
+
+
+@contextlib.contextmanager
+def dovecot(folder: str, root: Path | None = None) -> Iterator[tuple[int, int]]:
+    """Dovecot's servers of IMAP and POP3, with the settings of the page. Gives their ports. If a root is given, they are of version 2.4,
+    and see of this machine what is there alone."""
+    place, port, other = Path(folder, "dovecot"), free_port(), free_port()
+    certificate(folder)
+    place.mkdir()
+    place.chmod(0o755)
+    inside = as_in(root, folder)
+    page = configuration("Dovecot", {"/run/scramotp/auth": f"{inside}/auth", "/run/scramotp/master": f"{inside}/master"})
+    protocols = f"protocols = imap{' pop3' if root or Path(POP3).exists() else ''}\n"
+    own = ((OF_2_4 if root else OF_2_3) + OF_DOVECOT).format(f"{inside}/dovecot", port, other)
+    (place / "conf").write_text(own + protocols + page)
+    words = ["/usr/sbin/dovecot", "-F", "-c", f"{inside}/dovecot/conf"]
+    with process(["chroot", root, *words] if root else words, port, place / "output"):
         yield port, other
+
+
+def as_in(root: Path | None, path: str | Path) -> str:
+    """A path as it is for whoever sees only what is in a root, if there is one."""
+    return f"/{Path(path).relative_to(root)}" if root else str(path)
 
 
 def by_msmtp(folder: str, port: int, mechanism: str, name: str, password: str) -> Answer:
@@ -377,14 +399,18 @@ def over(protocol: str, by: Callable[..., Answer]) -> Callable[..., Answer]:
     return client
 
 
+OF_IMAP = [(over("imap", by_gsasl), SCRAMS + ["PLAIN"]), (over("imap", by_curl), BY_PASSWORD)]
+
+
 @contextlib.contextmanager
-def mailboxes(folder: str, accepted: int) -> Iterator[tuple[Door, Path, int, int]]:
-    """Dovecot over a door. Gives that, the folder in which each user has one, and the ports of IMAP and POP3."""
+def mailboxes(folder: str, accepted: int, root: Path | None = None) -> Iterator[tuple[Door, Path, int, int]]:
+    """Dovecot over a door, if a root is given the one there. Gives that, the folder in which each user has one, and the ports of IMAP and
+    POP3."""
     homes = Path(folder, "homes")
     homes.mkdir()
     homes.chmod(0o777)
-    userdb = f"uid=65534 gid=65534 home={homes}/%u"
-    with door_in(folder, accepted, "--master", f"{folder}/master", "--userdb", userdb) as door, dovecot(folder) as (imap, pop3):
+    userdb = f"uid=65534 gid=65534 home={as_in(root, homes)}/%u"
+    with door_in(folder, accepted, "--master", f"{folder}/master", "--userdb", userdb) as door, dovecot(folder, root) as (imap, pop3):
         yield door, homes, imap, pop3
 
 
@@ -392,7 +418,7 @@ def logins_at_dovecot(folder: str) -> None:
     """Dovecot's IMAP server: a user who is let in has a mailbox in the folder that the door names."""
     if has("Dovecot", "dovecot", "/usr/lib/dovecot/imap-login", *CLIENTS[:3]):
         with mailboxes(folder, 10) as (door, homes, port, _):
-            try_clients(folder, port, door, [(over("imap", by_gsasl), SCRAMS + ["PLAIN"]), (over("imap", by_curl), BY_PASSWORD)])
+            try_clients(folder, port, door, OF_IMAP)
         holds((homes / NAME / "mail").is_dir(), "the mailbox is not where it should be", [*homes.rglob("*")])
 
 
@@ -416,6 +442,39 @@ def mails_by_imap(folder: str) -> None:
             try_clients(folder, port, door, [(by_mbsync, SCRAMS + ["PLAIN"])])
         found = [path.read_text() for path in Path(folder, "fetched", NAME).rglob("*") if path.is_file()]
         equal(sum("Subject: of Alice" in text for text in found), 1, "the mails that were fetched", found)
+
+
+def root_with_dovecot(folder: str) -> Path | None:
+    """A folder with the programs of Debian 13, and so with Dovecot 2.4; or None, if it can't be made here, and then the script says so."""
+    what, root = "Dovecot 2.4", Path(folder, "root")
+    if os.environ.get("FRESH") != "yes":
+        return suite.not_tested(f"{what}, which takes FRESH=yes, as make test-all sets it")
+    if not has(what, "mmdebstrap", *CLIENTS[:3]):
+        return None
+    os.chmod(folder, 0o755)
+    # What is mounted below the folder is gone with the process.
+    words = ["unshare", "--mount", "mmdebstrap", "--quiet", "--variant=extract", "--include=dovecot-imapd,dovecot-pop3d", "trixie", root]
+    made = subprocess.run(words, stdin=subprocess.DEVNULL, capture_output=True, text=True, timeout=limit(300))
+    if made.returncode:
+        return suite.not_tested(f"{what}: {' '.join(made.stderr.split())[-200:]}")
+    for name in "bin", "lib", "lib64", "sbin":
+        (root / name).symlink_to(f"usr/{name}")
+    users = {"root": 0, "dovecot": 101, "dovenull": 102, "nobody": 65534}
+    (root / "etc/passwd").write_text("".join(f"{name}:x:{it}:{it}::/:/bin/sh\n" for name, it in users.items()))
+    (root / "etc/group").write_text("".join(f"{name}:x:{it}:\n" for name, it in users.items()))
+    return root
+
+
+def logins_at_dovecot_2_4(folder: str) -> None:
+    """The next version of Dovecot, with the same settings, if Debian's programs can be fetched."""
+    if root := root_with_dovecot(folder):
+        (root / "here").mkdir()
+        with mailboxes(str(root / "here"), 14, root) as (door, homes, imap, pop3):
+            try_clients(str(root / "here"), imap, door, OF_IMAP)
+            try_clients(str(root / "here"), pop3, door, [(over("pop3", by_curl), BY_PASSWORD)])
+            services = re.findall(" service=([a-z0-9]+) ", "".join(door.notes("login")))
+            equal(sorted({*services}), ["imap", "pop3"], "the services in the journal")
+        holds((homes / NAME / "mail").is_dir(), "the mailbox is not where it should be", [*homes.rglob("*")])
 
 
 # Who logs in, by which password, and as whom; whether the book allows that, and how a first message of SCRAM has both names.
@@ -466,7 +525,7 @@ def others_at_dovecot(folder: str) -> None:
         equal(sorted(it.name for it in homes.iterdir()), [OTHER, LIST], "who has a mailbox")
 
 
-TESTS = [logins_at_postfix, logins_at_exim, logins_at_dovecot, logins_by_pop3, mails_by_imap]
+TESTS = [logins_at_postfix, logins_at_exim, logins_at_dovecot, logins_at_dovecot_2_4, logins_by_pop3, mails_by_imap]
 TESTS += [others_at_postfix, others_at_exim, others_at_dovecot, differences_from_dovecot]
 
 suite.run_all(TESTS)

@@ -172,7 +172,7 @@ def outcomes(folder: str) -> None:
         server.send("CANCEL\t13")
         server.begin(13, USER)
         server.challenge(13)
-        server.begin(14, USER, "service=imap\tsecured=tls\tsession=x y\tlocal_name=localhost")
+        server.begin(14, USER, "protocol=imap\tsecured=tls\tsession=x y\tlocal_name=localhost")
         equal(server.goes_on(14, USER, is_wrong=True), "FAIL\t14\tuser=user", "a wrong password of an IMAP client, who is told no reason")
         server.auth(15, "PLAIN", b"\0user\0password of user", f"service=smtp\tsecured\trip={'9' * 9000}")
         equal(server.line(), "FAIL\t15\treason=Invalid user name or password", "a password, without --plain")

@@ -32,7 +32,8 @@ LONGEST_LINE = 16384  # bytes; Postfix limits a message to 12288
 MOST_UNREAD = 1 << 20  # bytes that are kept for a server that does not read
 PASSWORDS = ("PLAIN", "LOGIN")
 # What of the parameters of AUTH is kept of a client, and how it is called then; `session` is Dovecot's own name of the client's connection.
-KEPT = {"service": "service", "rip": "rip", "lip": "lip", "session": "client"}
+# What was `service` is `protocol` in Dovecot 2.4.
+KEPT = {"service": "service", "protocol": "service", "rip": "rip", "lip": "lip", "session": "client"}
 LONGEST_KEPT = 64  # characters of each
 REFUSED = "Invalid user name or password"
 
