@@ -166,6 +166,7 @@ def codes_for_sshd(folder: str) -> None:
     with booted(folder) as machine:
         equal(machine.does(BY_KEY), "in\n", "a login by the key alone")
         machine.does(typed("Codes for sshd"))
+        equal(machine.runs(ASKED.format("000000")).status, 255, "what ssh says to a user without a token")
         made = [text for title, _, text in suite.blocks_of(suite.TOP / "docs/OPERATING.md") if title == "Give a user one-time codes"][0]
         secret = machine.does("set +e; cd /etc/scramotp\n" + made.replace("name=user@example.org", "name=user"))
         now = int(time.time()) // 30
