@@ -26,7 +26,7 @@ from limits import limit
 from mail_servers import Door, Server, dovecot_auth, free_port, listens, postfix
 from needs import EXIM
 from processes import Answer, ran, until
-from suite import PROGRAM, TOP, blocks_of
+from suite import PROGRAM, blocks_of
 
 # Gives Exim a user that the machine has not.
 WRAPPER = "/usr/lib/x86_64-linux-gnu/libnss_wrapper.so"

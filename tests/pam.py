@@ -18,7 +18,7 @@ from checks import equal, holds
 from clients import Account, book
 from expected import code
 from processes import Answer, Running, ran, until
-from suite import CODES, PROGRAM, TOP, audit_says, blocks_of, each, hotp, program_on_path
+from suite import CODES, TOP, audit_says, blocks_of, each, hotp, program_on_path
 from tool_runs import TOOLS
 
 LOGIN, CODE = TOP / "hosts/check-login", TOOLS / "check-code"
