@@ -188,15 +188,4 @@ def without_the_lock(folder: str) -> None:
     equal(sorted(os.listdir(folder)), ["book", "log"], "the folder")
 
 
-TESTS = [
-    rows_of_table,
-    other_challenges,
-    logs_from_pipes,
-    progress_on_a_terminal,
-    no_progress_of_a_short_run,
-    long_logs,
-    unreadable_files,
-    without_the_lock,
-]
-
-suite.run_all(TESTS)
+suite.run_all()

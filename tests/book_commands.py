@@ -490,31 +490,4 @@ def held_by_another(folder: str) -> None:
     equal(pathlib.Path(book).read_text(), BOOK, "the book")
 
 
-TESTS = [
-    order_of_enrol,
-    order_of_a_new_book,
-    order_of_verify,
-    order_of_unlock,
-    bad_values,
-    values_at_their_limits,
-    no_file,
-    unreadable,
-    longest,
-    unwritable,
-    each_line,
-    random_bytes,
-    fresh_random_bytes,
-    unsaved,
-    unlocked,
-    names,
-    hard_links,
-    closed_next,
-    held_by_another,
-    owner,
-    shared_book,
-    group_of_others,
-    others_book,
-    others_next,
-]
-
-suite.run_all(TESTS)
+suite.run_all()

@@ -42,4 +42,4 @@ def rows_of_table(folder: str) -> None:
     print(f"book_faults.py: {len(rows)} books as they should be")
 
 
-suite.run_all([rows_of_table])
+suite.run_all()

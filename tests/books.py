@@ -379,24 +379,4 @@ def told_at_once(folder: str) -> None:
     run.ends(0)
 
 
-TESTS = [
-    twenty_at_once,
-    killed_before_any_call,
-    modes,
-    access_lists,
-    unwritable,
-    locked_by_another,
-    locked_folder,
-    one_lock,
-    swapped,
-    keys_before_the_lock,
-    made_at_once,
-    pipes,
-    left_by_a_killed_run,
-    too_long,
-    shown_texts,
-    input_limit,
-    told_at_once,
-]
-
-suite.run_all(TESTS)
+suite.run_all()

@@ -514,6 +514,4 @@ def threads(folder: str) -> None:
 if not ARCHIVES:
     not_tested("the library for C, since there is no archive in crates/c_library/out, which rt lib makes, or in CLIB")
     sys.exit()
-suite.run_all([
-    published, code_example, under_valgrind, refused, acts_as, keys, decoys, rooms, faults, codes, tokens, interface, fuzzed, threads
-])
+suite.run_all()

@@ -384,29 +384,4 @@ def unprinted_help(folder: str) -> None:
         equal(ran([PROGRAM, "--help"], stdout=full), (3, "", fault_text("cannot write output")), "help on a full device")
 
 
-TESTS = [
-    passwords,
-    values_at_their_limits,
-    bad_values,
-    codes,
-    bad_codes,
-    usage,
-    help_and_version,
-    examples,
-    examples_alone,
-    input_limit,
-    server_signature,
-    hotp_codes,
-    pairs_of_codes,
-    a_far_pair,
-    texts_that_are_no_pair,
-    two_steps_in_a_row,
-    totp_codes,
-    totp_codes_of_each_hash,
-    locked_tokens,
-    enrolling,
-    words_that_are_no_text,
-    unprinted_help,
-]
-
-suite.run_all(TESTS)
+suite.run_all()

@@ -252,4 +252,4 @@ def syntax(folder: str) -> None:
                 not_tested(f"the completions of {shell}, which is not here")
 
 
-suite.run_all([words, options, names, names_in_zsh, names_in_fish, syntax])
+suite.run_all()

@@ -509,10 +509,7 @@ def recorded(folder: str) -> None:
                     holds(result != OK or bytes.fromhex(answer).decode() == verdict, "the server's signature")
 
 
-TESTS = [logins, acts_as, beside_cyrus_own, realms, decoys, forms, options, order, one_connection, hostile]
-TESTS += [clients, directory, mail_server, keys_by_cyrus, table, recorded]
-
 if not ARCHIVES:
     not_tested("the plug-in for Cyrus SASL, since there is no archive of the library for C, which rt lib makes")
 elif has("the plug-in for Cyrus SASL", "/usr/include/sasl/saslplug.h", str(CYRUS / "libsasldb.so")):
-    suite.run_all(TESTS)
+    suite.run_all()

@@ -192,7 +192,7 @@ def words_of_scripts() -> set[str]:
 
 
 def untold_tests() -> Iterator[str]:
-    """The scripts in this folder that docs/TESTING.md does not name, or that take a program but are not run by run.py."""
+    """The files in this folder that docs/TESTING.md does not name, and scripts that take a program but are not run by run.py."""
     told = (TOP / "docs" / "TESTING.md").read_text(encoding="utf-8")
     for path in sorted(TOP.glob("tests/*.py")):
         takes_program = f"Usage: {path.name} PROGRAM" in path.read_text(encoding="utf-8")
@@ -202,13 +202,12 @@ def untold_tests() -> Iterator[str]:
 
 
 def unused_functions() -> Iterator[str]:
-    """The functions that their script never uses, such as a test that is not in the list for `run_all`."""
-    for path in sorted(TOP.glob("tests/*.py")):
-        text = path.read_text(encoding="utf-8")
-        if "suite.run_all(" in text:
-            script = ast.parse(text)
-            used = {it.id for it in ast.walk(script) if isinstance(it, ast.Name)}
-            yield from (f"{path.name}: {it.name}" for it in script.body if isinstance(it, ast.FunctionDef) and it.name not in used)
+    """The functions that their script never uses and that are no tests."""
+    tests = {*tests_of_scripts()}
+    for name in run.TESTS:
+        script = ast.parse((TOP / "tests" / name).read_text(encoding="utf-8"))
+        used = {it.id for it in ast.walk(script) if isinstance(it, ast.Name)} | {test for by, test in tests if by == name}
+        yield from (f"{name}: {it.name}" for it in script.body if isinstance(it, ast.FunctionDef) and it.name not in used)
 
 
 def untyped_functions() -> Iterator[str]:
@@ -244,14 +243,10 @@ def left_tables() -> Iterator[str]:
 
 
 def tests_of_scripts() -> Iterator[tuple[str, str]]:
-    """The tests in the lists of the scripts, each with its script."""
-    for path in TOP.glob("tests/*.py"):
-        script = ast.parse(path.read_text(encoding="utf-8"))
-        for it in ast.walk(script):
-            is_list = isinstance(it, ast.Assign | ast.AugAssign) and ast.unparse(it).startswith("TESTS ")
-            if is_list or isinstance(it, ast.Call) and ast.unparse(it.func) == "suite.run_all":
-                lists = [part for part in ast.walk(it) if isinstance(part, ast.List)]
-                yield from ((path.name, test.id) for part in lists for test in part.elts if isinstance(test, ast.Name))
+    """The tests that `run_all` finds, each with its script."""
+    for name in run.TESTS:
+        text = (TOP / "tests" / name).read_text(encoding="utf-8")
+        yield from ((name, test) for test in re.findall(r"^def (\w+)\(folder: str\) -> None:$", text, re.M))
 
 
 def pages_of_another_kit() -> Iterator[str]:

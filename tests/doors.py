@@ -525,7 +525,4 @@ def others_at_dovecot(folder: str) -> None:
         equal(sorted(it.name for it in homes.iterdir()), [OTHER, LIST], "who has a mailbox")
 
 
-TESTS = [logins_at_postfix, logins_at_exim, logins_at_dovecot, logins_at_dovecot_2_4, logins_by_pop3, mails_by_imap]
-TESTS += [others_at_postfix, others_at_exim, others_at_dovecot, differences_from_dovecot]
-
-suite.run_all(TESTS)
+suite.run_all()

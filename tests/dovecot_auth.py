@@ -506,23 +506,4 @@ def manuals(folder: str) -> None:
         equal(told, {*re.findall(r"--(\w+)", helps)} - {"help"}, "the options of", name)
 
 
-suite.run_all(
-    [
-        greeting,
-        hostile_lines,
-        random_bytes,
-        servers_that_do_not_read,
-        outcomes,
-        passwords,
-        who_has_logged_in,
-        many_at_once,
-        clients_that_leave,
-        limits,
-        halls_that_fail,
-        sockets,
-        new_log_each_day,
-        blocks_of_the_page,
-        units,
-        manuals,
-    ]
-)
+suite.run_all()

@@ -234,7 +234,7 @@ def a_book_that_is_changed_meanwhile(folder: str) -> None:
             equal(book.read_text(), BOOK_OF_USER if "touch" in change else other, change, "the book")
 
 
-def has_both_changes(folder: str) -> None:
+def has_both_changes(folder: str | Path) -> None:
     """Checks that the book has what an edit changed, and what a run did."""
     found = book_of(folder)
     equal((found["decoy_count"], found["accounts"]["user"]["token"]["next"]), (4097, 1), "the count of decoys and the next counter", found)
@@ -295,23 +295,4 @@ def an_edit_gives_up(folder: str) -> None:
     equal(book.read_text(), BOOK_OF_USER, "the book after an edit that gave up")
 
 
-suite.run_all(
-    [
-        an_editor_and_a_command,
-        an_edit_that_fails,
-        an_edit_that_cannot_be_saved,
-        an_edit_of_anothers_book,
-        an_edit_in_a_folder_of_others,
-        a_book_of_two_names,
-        an_edit_that_cannot_lock,
-        a_process_that_an_edit_leaves,
-        an_edit_that_is_stopped,
-        an_editor_at_an_interrupt,
-        a_book_that_may_not_be_written,
-        a_book_that_is_changed_meanwhile,
-        an_edit_waits,
-        a_run_waits,
-        many_at_once,
-        an_edit_gives_up,
-    ]
-)
+suite.run_all()

@@ -168,4 +168,4 @@ def first_saves(folder: str) -> None:
     print(f"failed_saves.py: {here.count} first saves fail")
 
 
-suite.run_all([codes_of_two_runs, first_saves])
+suite.run_all()

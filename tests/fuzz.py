@@ -427,34 +427,34 @@ def tried(kind: Callable, **one_in: int) -> None:
     print(f"fuzz.py: {COUNT} inputs by {kind.__name__}, from seed {SEED}")
 
 
-def books(_: str) -> None:
+def books(folder: str) -> None:
     """A book that is a few edits from a good or a faulty one is refused and left, or read as tomllib reads it."""
     tried(a_book, a_book_that_is_read=30)
 
 
-def recorded_logs(_: str) -> None:
+def recorded_logs(folder: str) -> None:
     """A log that is a few edits from a recorded one is clean before the line at fault, and has the same answer once it is upgraded."""
     tried(a_log, an_upgraded_log=25, a_clean_log=100, the_lines_before_a_fault=2)
 
 
-def codes(_: str) -> None:
+def codes(folder: str) -> None:
     """Words of `code` are refused, or the code is the one that Python computes."""
     tried(words_of_code, a_code_of_a_counter=25, a_code_of_a_moment=40)
 
 
-def keys(_: str) -> None:
+def keys(folder: str) -> None:
     """Words and passwords of `keys` are refused, or the keys are those that Python computes."""
     tried(words_of_keys, the_keys_of_a_password=10)
 
 
-def lines(_: str) -> None:
+def lines(folder: str) -> None:
     """Lines of `verify` have the replies that are due, leave the token that is due, and no counter passes twice."""
     tried(lines_of_verify, a_counter_that_passes=6, a_pair_that_passes=12, a_step_that_passes=8, a_locked_token=5)
 
 
-def halls(_: str) -> None:
+def halls(folder: str) -> None:
     """Events of a hall lead to a log that begins a clean one, with a line for each event that was heard."""
     tried(a_hall, a_login_in_a_hall=2, a_code_in_a_hall=4)
 
 
-suite.run_all([books, recorded_logs, codes, keys, lines, halls])
+suite.run_all()

@@ -182,7 +182,7 @@ def all_orders(folder: str) -> None:
             here.audited(printed, clean(3, 2, 2))
 
 
-def shuffled(_: str) -> None:
+def shuffled(folder: str) -> None:
     """64 logins to 64 accounts, each with a code, in random orders: each line of a session belongs to its own login, the log is clean, and
     each code is counted for its own account."""
     accounts = [Account(f"user {number}", list(HASHES)[number % 2]) for number in range(64)]
@@ -213,16 +213,4 @@ def shuffle_of(accounts: list[Account]) -> tuple[list[int], list[list[Turn]], di
     return order, visits, tokens
 
 
-TESTS = [
-    two_sessions,
-    sixty_four,
-    bounds,
-    lines_that_are_none,
-    first_messages,
-    codes_of_one_account,
-    told_at_once,
-    all_orders,
-    shuffled,
-]
-
-suite.run_all(TESTS)
+suite.run_all()

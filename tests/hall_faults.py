@@ -160,15 +160,4 @@ def long_inputs(folder: str) -> None:
     here.logs(text + "a" * (MOST_BYTES - len(text)), 0, log + "2 C BAD\n2 S NO :\n2 E\n")
 
 
-TESTS = [
-    bad_events,
-    failed_saves,
-    first_saves,
-    books_that_are_none,
-    held_books,
-    outputs_that_fail,
-    inputs_that_fail,
-    long_inputs,
-]
-
-suite.run_all(TESTS)
+suite.run_all()

@@ -44,4 +44,4 @@ def killed_before_any_call(folder: str) -> None:
     here.has_only("book")
 
 
-suite.run_all([killed_before_any_call])
+suite.run_all()

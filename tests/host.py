@@ -478,22 +478,4 @@ def a_book_that_is_held(folder: str) -> None:
     equal(audits(folder), [(0, 0), (1, 1)], "the audits")
 
 
-suite.run_all(
-    [
-        logins_over_changes,
-        files_of_a_log,
-        names_of_logins,
-        passwords,
-        codes,
-        cancelled_logins,
-        logins_that_are_lost_at_once,
-        long_messages_at_once,
-        idle_logins,
-        idle_over_a_change,
-        limited_addresses,
-        an_alarm,
-        an_operator_at_work,
-        faults_of_a_hall,
-        a_book_that_is_held,
-    ]
-)
+suite.run_all()

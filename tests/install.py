@@ -131,4 +131,4 @@ def run_from_sources(folder: str) -> None:
                 equal(done, answer, "what make run prints")
 
 
-suite.run_all([installed, library_for_c, refused, shown, run_from_sources])
+suite.run_all()

@@ -614,26 +614,4 @@ def pages_in_a_browser(folder: str) -> None:
     return None
 
 
-suite.run_all(
-    [
-        recorded_logs,
-        an_incident,
-        cut_logs,
-        a_full_hall,
-        first_messages,
-        last_messages,
-        spent_codes,
-        a_table,
-        for_other_programs,
-        a_page,
-        the_picture,
-        hostile_names,
-        pages_of_faulty_logs,
-        clients_that_are_not_known,
-        faults,
-        a_page_in_the_place_of_another,
-        other_audits,
-        long_logs,
-        pages_in_a_browser,
-    ]
-)
+suite.run_all()

@@ -394,24 +394,4 @@ def long_inputs(folder: str) -> None:
     here.logs(words, text + b"a" * (MOST_BYTES - len(text)), 1, log)
 
 
-TESTS = [
-    published_logins,
-    refused_logins,
-    decoys,
-    names_to_act_as,
-    client_faults,
-    codes,
-    lines_that_are_no_code,
-    replies_at_once,
-    failed_saves,
-    random_nonces,
-    values_with_hyphens,
-    moments,
-    order_of_faults,
-    short_random_files,
-    sockets_in_the_way,
-    another_at_the_path,
-    long_inputs,
-]
-
-suite.run_all(TESTS)
+suite.run_all()

@@ -86,4 +86,4 @@ def twenty_at_once(folder: str) -> None:
         here.has_only("book")
 
 
-suite.run_all([killed_before_any_call, left_sockets, twenty_at_once])
+suite.run_all()

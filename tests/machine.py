@@ -498,18 +498,4 @@ def moments_that_fall(folder: str) -> None:
     audited(here.folder, before, log)
 
 
-TESTS = [
-    table,
-    socket_elsewhere,
-    few_descriptors,
-    signals,
-    signals_while_waiting,
-    stopped_while_waiting,
-    stopped_at_random,
-    twenty_at_once,
-    all_at_once,
-    clocks_that_go_back,
-    moments_that_fall,
-]
-
-suite.run_all(TESTS)
+suite.run_all()

@@ -7,10 +7,9 @@ An example is a session of a shell: `$ ` stands before a command, `> ` before ea
 prints. It runs as it stands, after the examples that its page asks for.
 """
 import ast
-import functools
 import re
 import shutil
-from collections.abc import Callable, Iterator
+from collections.abc import Iterator
 from pathlib import Path
 
 import suite
@@ -167,17 +166,6 @@ def formats(folder: str) -> None:
     prints(suite.verify_words(book, "59"), f"{code}\n", 0, "PASS 59 0\n")
 
 
-def with_mandoc(test: Callable[[str], None]) -> Callable[[str], None]:
-    """The test, which says that the pages are not tested if there is no mandoc."""
-    @functools.wraps(test)
-    def either(folder: str) -> None:
-        if shutil.which("mandoc"):
-            test(folder)
-        else:
-            not_tested("the man pages, since there is no mandoc")
-    return either
-
-
-TESTS = [lint, names, references, options, synopses, examples, formats]
-
-suite.run_all([*map(with_mandoc, TESTS)])
+if shutil.which("mandoc"):
+    suite.run_all()
+not_tested("the man pages, since there is no mandoc")

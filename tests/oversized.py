@@ -311,16 +311,4 @@ def endless_codes(folder: str) -> None:
             print(f"oversized.py: {whole} codes by {name}, which took {late - early} KiB more than the first 1000")
 
 
-TESTS = [
-    lengths_of_first_messages,
-    lengths_of_lines,
-    lengths_of_last_messages,
-    lengths_of_words,
-    lengths_of_files,
-    long_logs,
-    endless_logs,
-    endless_passwords,
-    endless_codes,
-]
-
-suite.run_all(TESTS)
+suite.run_all()

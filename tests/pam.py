@@ -145,4 +145,4 @@ def by_pamtester(folder: str) -> None:
     is_clean(folder, 5, 3, 1)
 
 
-suite.run_all([passwords, passwords_with_codes, codes, by_pamtester])
+suite.run_all()

@@ -80,7 +80,7 @@ def adding() -> str:
     return block
 
 
-def with_fob(folder: str) -> None:
+def with_fob(folder: str | Path) -> None:
     """Gives the account NAME the token of the fob that the document adds."""
     does(folder, blocks("Give a user one-time codes")[-1].replace(FOB, NAME).replace("no such account", "no token"))
 
@@ -618,7 +618,7 @@ def units(folder: str) -> None:
     has_keys_of(read_book(state / "book.toml")["accounts"]["user"], b"pencil", 4096)
 
 
-def with_incident(folder: str) -> None:
+def with_incident(folder: str | Path) -> None:
     """Puts the log of an incident into the folder, with its book and the file of its clients, under the names that `serve-hall` gives."""
     for end, name in [("log", "hall.log"), ("toml", "hall.log.toml"), ("log.clients", "hall.log.clients")]:
         shutil.copy(DATA / f"reports/incident.{end}", Path(folder, name))
@@ -776,38 +776,4 @@ def every_block(folder: str) -> None:
     equal({block[:2] for block in all_blocks()}, taken, "the blocks of the document, and those that a test takes")
 
 
-TESTS = [
-    a_token,
-    a_hotp_token,
-    a_fob_that_ran_ahead,
-    a_locked_token,
-    an_account,
-    a_password,
-    a_password_of_one_mechanism,
-    a_first_password,
-    a_password_that_is_refused,
-    one_mechanism,
-    a_removed_account,
-    a_renamed_account,
-    what_accounts_have,
-    decoys,
-    keys_of_dovecot,
-    a_verifier_there_and_back,
-    a_code_of_a_service,
-    keys_at_fault,
-    a_backup,
-    a_shell,
-    every_tool,
-    all_in_order,
-    ended_logs,
-    removed_logs,
-    who_got_in,
-    units,
-    a_new_log_each_night,
-    units_are_known,
-    a_unit_of_a_hall,
-    what_is_watched,
-    every_block,
-]
-
-suite.run_all(TESTS)
+suite.run_all()

@@ -206,14 +206,4 @@ def books_are_changed_again(folder: str) -> None:
     print(f"refused_calls.py: {reading} requests of reading a book, {writing} of writing it, {adding} of enrol are refused")
 
 
-TESTS = [
-    calls_are_made_again,
-    turns_are_taken_again,
-    a_service_can_be_ended,
-    calls_of_a_hall_are_made_again,
-    texts_are_written_again,
-    books_are_changed_again,
-    clients_are_told_what_is_saved,
-]
-
-suite.run_all(TESTS)
+suite.run_all()

@@ -202,13 +202,4 @@ def other_calls_that_are_interrupted(folder: str) -> None:
     print(f"refused_io.py: {told + again} other calls interrupted, of which {told} are told and {again} made again")
 
 
-TESTS = [
-    every_call_is_known,
-    reads_and_writes_that_are_interrupted,
-    other_calls_that_are_interrupted,
-    reads_and_writes_that_move_one_byte,
-    calls_that_are_refused,
-    calls_that_are_late,
-]
-
-suite.run_all(TESTS)
+suite.run_all()

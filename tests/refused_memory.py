@@ -107,10 +107,4 @@ def commands_are_refused(folder: str) -> None:
     print(f"refused_memory.py: {count} requests of all commands are refused, of which {told} are told")
 
 
-TESTS = [
-    commands_are_refused,
-    audits_are_refused,
-    upgrades_are_refused,
-]
-
-suite.run_all(TESTS)
+suite.run_all()

@@ -37,49 +37,10 @@ LIMIT = limit(1800)
 # What a script prints, after its name, before a part that this machine can't test.
 NOT_TESTED = re.compile(r"^(\S+): not tested: (.*)$", re.M)
 # The scripts; those that take longest come first.
-TESTS = [
-    "hall.py",
-    "books.py",
-    "login_kill.py",
-    "hall_kill.py",
-    "cut_logs.py",
-    "oversized.py",
-    "refused_calls.py",
-    "refused_memory.py",
-    "recipes.py",
-    "edit_book.py",
-    "log_report.py",
-    "tools.py",
-    "book_commands.py",
-    "machine.py",
-    "sessions.py",
-    "refused_io.py",
-    "failed_saves.py",
-    "power_loss.py",
-    "hall_faults.py",
-    "serve_hall.py",
-    "host.py",
-    "pam.py",
-    "dovecot_auth.py",
-    "doors.py",
-    "systemd.py",
-    "login.py",
-    "audits.py",
-    "upgrades.py",
-    "book_faults.py",
-    "vectors.py",
-    "fuzz.py",
-    "commands.py",
-    "terminal.py",
-    "deb.py",
-    "man.py",
-    "completions.py",
-    "install.py",
-    "story.py",
-    "formats.py",
-    "c_library.py",
-    "cyrus.py",
-]
+LONGEST = ["hall.py", "books.py", "login_kill.py", "hall_kill.py", "cut_logs.py", "oversized.py", "refused_calls.py", "refused_memory.py",
+           "recipes.py", "edit_book.py", "log_report.py", "tools.py", "book_commands.py", "machine.py", "sessions.py", "refused_io.py"]
+SCRIPT = re.compile(r"^ *suite\.run_all\(\)$", re.M)
+TESTS = LONGEST + sorted({it.name for it in FOLDER.glob("*.py") if SCRIPT.search(it.read_text(encoding="utf-8"))} - {*LONGEST})
 # What works with the library for C.
 OF_C_LIBRARY = {"c_library.py", "cyrus.py", "planted.py"}
 # How many random choices a script makes with --unproved: enough for each of its planted bugs. By default it makes more.

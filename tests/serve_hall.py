@@ -482,7 +482,7 @@ def a_socket_that_is_replaced(folder: str) -> None:
             equal(file.exists(), is_replaced, "whether a file has the socket's name at the end")
 
 
-def leaves_nothing(folder: str) -> None:
+def leaves_nothing(folder: str | Path) -> None:
     """Checks that neither the socket nor the log nor the copy of the book is left to prevent the next start."""
     equal([name for name in os.listdir(folder) if name.startswith("hall")], [], "what is left")
 
@@ -527,25 +527,4 @@ def a_hall_that_does_not_begin(folder: str) -> None:
     leaves_nothing(folder)
 
 
-suite.run_all(
-    [
-        a_hall_of_your_own,
-        a_code_of_this_moment,
-        clients_of_a_log,
-        a_full_hall,
-        a_hall_that_halts,
-        a_log_that_cannot_be_written,
-        a_hall_that_is_killed,
-        a_slow_client,
-        a_client_that_does_not_read,
-        a_client_that_ends_no_line,
-        a_log_that_is_there,
-        a_copy_that_is_the_book,
-        a_socket_that_is_left,
-        signals_to_all,
-        modes_of_its_files,
-        a_socket_that_is_replaced,
-        a_stop_before_the_hall_begins,
-        a_hall_that_does_not_begin,
-    ]
-)
+suite.run_all()

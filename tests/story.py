@@ -71,4 +71,4 @@ def first_steps(folder: str) -> None:
     print(f"story.py: {len(story)} commands do as README says")
 
 
-suite.run_all([first_steps])
+suite.run_all()

@@ -3,6 +3,7 @@ the words of a login, the page that is tested, questions about books, locks and 
 import contextlib
 import fcntl
 import functools
+import inspect
 import os
 import pathlib
 import pwd
@@ -336,8 +337,11 @@ def rows_text(bad: list[str]) -> str:
     return f"{len(bad)} of its rows fail\n" + "".join(bad).rstrip("\n")
 
 
-def chosen(tests: list[Callable]) -> list[Callable]:
-    """The tests that the words after the program's path name, or all if there is no such word. Exits if one of them names no test."""
+def chosen() -> list[Callable]:
+    """The tests of the script that the words after the program's path name, or all if there is no such word. A test is a function of the
+    script with this signature. Exits if a word names no test."""
+    functions = [it for it in vars(sys.modules["__main__"]).values() if inspect.isfunction(it) and it.__module__ == "__main__"]
+    tests = [it for it in functions if str(inspect.signature(it)) == "(folder: str) -> None"]
     names = sys.argv[2:]
     for name in names:
         if not any(test.__name__ == name for test in tests):
@@ -351,10 +355,11 @@ def end_test(_signal: int, _frame: Any) -> NoReturn:
     raise TakesTooLong(f"the test takes over {LIMIT_OF_TEST} seconds")
 
 
-def run_all(tests: list[Callable]) -> NoReturn:
-    """Runs each test, or those that the command line names, in an empty folder of its own and from a seed of its own. Prints which fail,
-    each with its last run, and how many pass, and exits, with status 1 if one fails. What a test has started does not outlive it."""
-    tests, failed = chosen(tests), 0
+def run_all() -> NoReturn:
+    """Runs each test of the script, or those that the command line names, in an empty folder of its own and from a seed of its own. Prints
+    which fail, each with its last run, and how many pass, and exits, with status 1 if one fails. What a test has started does not outlive
+    it."""
+    tests, failed = chosen(), 0
     signal.signal(signal.SIGALRM, end_test)
     # A shell that starts this script in the background has it ignore INT, and nohup HUP. What a test starts would then ignore it too.
     signal.signal(signal.SIGINT, signal.default_int_handler)

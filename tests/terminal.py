@@ -123,4 +123,4 @@ def nothing_to_wait_for(folder: str) -> None:
                 equal(terminal.all_shown(), said, words, "what is shown")
 
 
-suite.run_all([both_are_terminals, input_is_a_terminal, faults_are_a_terminal, nothing_to_wait_for])
+suite.run_all()

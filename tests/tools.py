@@ -172,15 +172,4 @@ def a_code_of_this_moment(folder: str) -> None:
             equal(found, (status, "", ""), f"the answer to a code of {steps} steps after now")
 
 
-suite.run_all(
-    [
-        a_password_of_any_name,
-        headers_of_another_form,
-        an_account_removed_meanwhile,
-        a_book_that_a_tool_cannot_read,
-        names_that_a_tool_prints,
-        a_code_in_a_script,
-        a_code_of_a_held_book,
-        a_code_of_this_moment,
-    ]
-)
+suite.run_all()

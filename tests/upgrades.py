@@ -96,4 +96,4 @@ def long_logs(folder: str) -> None:
     holds(taken < limit, "990000 lines take as many seconds of processor time as those keys", taken, limit)
 
 
-suite.run_all([same_answers, faults, long_logs])
+suite.run_all()

@@ -49,4 +49,4 @@ def table_of_codes(folder: str) -> None:
     each_row("codes.csv", codes)
 
 
-suite.run_all([table_of_keys, table_of_codes])
+suite.run_all()
