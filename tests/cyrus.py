@@ -12,7 +12,6 @@ import os
 import re
 import shutil
 import subprocess
-import sys
 from base64 import b64decode
 from collections.abc import Callable
 from pathlib import Path
@@ -26,11 +25,11 @@ from cyrus_support import folder_of, fresh, hexed, message, plugin, stored_keys
 from expected import VECTORS, rows_of
 from mail_servers import free_port, postfix
 from processes import Running, ran, until
-from suite import each, not_tested
+from suite import TOP, each, not_tested
 
 SCRAMS = ["SCRAM-SHA-256", "SCRAM-SHA-1"]
 SANITIZERS = ["-g", "-fsanitize=address,undefined", "-fno-sanitize-recover=all"]
-PAGE = suite.document("plugins/cyrus/README.md")
+PAGE = (TOP / "plugins/cyrus/README.md").read_text(encoding="utf-8")
 
 
 def logins(folder: str) -> None:
@@ -339,7 +338,7 @@ def directory(folder: str) -> None:
     if not has("binds at OpenLDAP's server", "slapd", "slapadd", "ldapwhoami"):
         return
     Path(folder, "entries").mkdir()
-    settings = re.search("^```\n(attributetype.*?)^```", PAGE.read_text(encoding="utf-8"), re.M | re.S)[1]
+    settings = re.search("^```\n(attributetype.*?)^```", PAGE, re.M | re.S)[1]
     Path(folder, "slapd.conf").write_text(SLAPD.format(folder, settings))
     both = "\n".join(f"authPassword: {stored_keys(it, 'pencil')}" for it in SCRAMS)
     secrets = {"alice": "userPassword: wonder land", "\u00d3lafur": "userPassword: snowman", "bob": both}
@@ -373,7 +372,7 @@ def mail_server(folder: str) -> None:
     Path(folder).chmod(0o755)
     Path(folder, "postfix/sasl").mkdir(parents=True)
     Path(folder, "test.conf").rename(Path(folder, "postfix/sasl/smtpd.conf"))
-    settings = re.search("^```\n(smtpd_sasl.*?)^```", PAGE.read_text(encoding="utf-8"), re.M | re.S)[1]
+    settings = re.search("^```\n(smtpd_sasl.*?)^```", PAGE, re.M | re.S)[1]
     with postfix(folder, settings.replace("/usr/local/lib/scramotp/sasl2", f"{folder}/plugins")) as port:
         for trial, mechanism in each(SCRAMS):
             with trial:
@@ -465,7 +464,7 @@ ROWS: dict[str, tuple[str, Callable[[str], str], dict[str, str]]] = {
 def three(folder: str) -> list[Server | GnuServer]:
     """The plug-in, Cyrus's own and GNU SASL, each with the same accounts; or none where one of the others is missing, or another version
     than those of which README.md speaks."""
-    said = PAGE.read_text(encoding="utf-8")
+    said = PAGE
     try:
         servers = [Server(fresh(folder)), Server(fresh(folder), CYRUS / "libscram.so"), GnuServer(PASSWORDS)]
     except OSError:
@@ -484,7 +483,7 @@ def table(folder: str) -> None:
     """What each server does is what the table in README.md says."""
     if servers := three(folder):
         found = {name: [outcome(it, first, change, **more) for it in servers] for name, (first, change, more) in ROWS.items()}
-        lines = re.findall(r"^\| (.*) \| (.*) \| (.*) \| (.*) \| .* \|$", PAGE.read_text(encoding="utf-8"), re.M)
+        lines = re.findall(r"^\| (.*) \| (.*) \| (.*) \| (.*) \| .* \|$", PAGE, re.M)
         equal({name: cells for name, *cells in lines if name in ROWS}, found)
 
 

@@ -8,9 +8,8 @@ import re
 import tempfile
 from pathlib import Path
 
-import suite
 from c_support import MADE, WARNINGS, answer_to, base64_of, library
-from checks import equal, fail, holds
+from checks import equal, fail
 from expected import HASHES, login_keys
 from processes import Running, ran
 from suite import TOP

@@ -20,13 +20,14 @@ from pathlib import Path
 
 import needs
 import suite
+from blocks import Page, filled
 from checks import equal, holds
 from clients import Account, book
 from limits import limit
 from mail_servers import Door, Server, dovecot_auth, free_port, listens, postfix
 from needs import EXIM
 from processes import Answer, ran, until
-from suite import PROGRAM, blocks_of
+from suite import PROGRAM
 
 # Gives Exim a user that the machine has not.
 WRAPPER = "/usr/lib/x86_64-linux-gnu/libnss_wrapper.so"
@@ -35,7 +36,7 @@ NAME, PASSWORD = "alice@example.org", "wonder land"
 OTHER, ODD, LIST = "bob@example.org", "x=y,z", "list=a,b"
 SCRAMS = ["SCRAM-SHA-256", "SCRAM-SHA-1"]
 BY_PASSWORD = ["PLAIN", "LOGIN"]
-PAGE = suite.document("docs/DOORS.md")
+PAGE = Page("docs/DOORS.md")
 
 
 def has(what: str, *needed: str) -> bool:
@@ -49,12 +50,8 @@ def has(what: str, *needed: str) -> bool:
 
 
 def configuration(title: str, changes: dict[str, str]) -> str:
-    """The blocks of a section of docs/DOORS.md, one after another, with these changes of paths and ports."""
-    text = "".join(block for section, language, block in blocks_of(PAGE) if section == title and not language)
-    for old, new in changes.items():
-        holds(old in text, "the page does not have", old)
-        text = text.replace(old, new)
-    return text
+    """The block of a section of docs/DOORS.md, with these changes of paths and ports."""
+    return filled(PAGE.block(title, ""), changes)
 
 
 def certificate(folder: str) -> dict[str, Path]:

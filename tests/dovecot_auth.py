@@ -16,7 +16,6 @@ import shutil
 import signal
 import socket
 import stat
-import subprocess
 import time
 from base64 import b64decode, b64encode
 from concurrent.futures import ThreadPoolExecutor
@@ -24,12 +23,13 @@ from datetime import UTC, datetime, timedelta
 from pathlib import Path
 
 import suite
+from blocks import Page, shows
 from checks import equal, holds
 from clients import Account, book
 from expected import proved
 from mail_servers import GREETING, SETTINGS, Door, Server, door_of
 from processes import Running, ran, until
-from suite import PROGRAM, TOP, blocks_of, each, program_on_path
+from suite import PROGRAM, TOP, each, program_on_path
 
 USER = Account("user", "SCRAM-SHA-256")
 OLD = Account("old=user, odd", "SCRAM-SHA-1")
@@ -424,19 +424,7 @@ def new_log_each_day(folder: str) -> None:
         holds(began[1] >= moment.replace(":", ""), "the new log begins early", began, moment)
 
 
-PAGE = suite.document("docs/DOORS.md")
-
-
-def blocks(title: str, language: str) -> list[str]:
-    """The blocks of a section of the page in this language."""
-    return [text for section, of, text in blocks_of(PAGE) if (section, of) == (title, language)]
-
-
-def shown(block: str) -> tuple[str, str]:
-    """The commands of a block, and what it says that they print."""
-    lines = block.splitlines()
-    told = [line.removeprefix("#> ") for line in lines if line.startswith("#> ")]
-    return "\n".join(line for line in lines if not line.startswith("#> ")), "".join(f"{line}\n" for line in told)
+PAGE = Page("docs/DOORS.md")
 
 
 def blocks_of_the_page(folder: str) -> None:
@@ -444,14 +432,13 @@ def blocks_of_the_page(folder: str) -> None:
     Path(folder, "hosts").symlink_to(TOP / "hosts")
     Path(folder, "book.toml").write_text(BOOK.replace("failures = 0", "failures = 100").replace("decoy_count = 4096", "decoy_count = 4095"))
     Path(folder, "book.toml").chmod(0o600)
-    [start], [work], [program] = blocks("Start", "sh"), blocks("Unlock, enrol, edit", "sh"), blocks("As a library", "python")
+    start, work, program = PAGE.block("Start"), PAGE.block("Unlock, enrol, edit"), PAGE.block("As a library", "python")
     how = {"cwd": folder, "env": {**program_on_path(folder), "PYTHONPATH": str(TOP / "hosts")}}
     run = Running(["bash", "-c", start.replace("hosts/serve", "exec hosts/serve")], **how)
     until(lambda: Path(folder, "auth").exists() or run.process.poll() is not None, "the door should serve")
     with Server(Path(folder, "auth")) as server:
         equal(server.logs_in(1, USER), OK.format(1), "a login")
-    commands, printed = shown(work)
-    equal(ran(["bash", "-c", commands], **how), (0, printed, ""), "what the block prints")
+    shows(folder, work)
     found = suite.read_book(Path(folder, "book.toml"))
     done = found["accounts"]["user"]["token"]["failures"], "new" in found["accounts"], found["decoy_count"]
     equal(done, (0, True, 4096), "the book after that")

@@ -19,12 +19,12 @@ from concurrent.futures import ThreadPoolExecutor
 from pathlib import Path
 
 import suite
+from blocks import TOOLS, book_of, does, ran, stand_in, start, with_tools
 from checks import equal, holds
 from processes import LIMIT_OF_LINES, Running, Terminal, sleeps, until, whole
 from suite import (
     BOOK_OF_USER, CODES, ROOT, as_nobody, each, hotp, is_awaited, is_locked, is_root, nobody, program_on_path, seen, verify_words,
 )
-from tool_runs import TOOLS, book_of, does, ran, stand_in, start, with_tools
 
 
 def an_editor_and_a_command(folder: str) -> None:

@@ -5,8 +5,7 @@ docs/DOORS.md too: a session of a hall, which is the one of docs/FORMATS.md, and
 Usage: formats.py PROGRAM [TEST ..]
 
 The login of RFC 5802's user is the recorded one, data/audits/sha1.log. All commands for many logs are run, except that with `parallel`.
-The grammar has the lines that audit_cases.py says are lines, and no others. A block that no test checks is a fault. DOCUMENT=PATH in the
-environment names another page than docs/FORMATS.md.
+The grammar has the lines that audit_cases.py says are lines, and no others. A block that no test checks is a fault.
 """
 import functools
 import gzip
@@ -17,30 +16,20 @@ from pathlib import Path
 import audit_cases
 import processes
 import suite
+from blocks import SHOWN, Page, shows
 from checks import equal, holds
 from expected import AUDITS
-from suite import PROGRAM, blocks_of, document, each, program_on_path
+from suite import PROGRAM, each, program_on_path
 
-DOCUMENT = document("docs/FORMATS.md")
-DOORS = suite.TOP / "docs" / "DOORS.md"
+PAGE, DOORS = Page("docs/FORMATS.md"), Page("docs/DOORS.md")
+BOOK = PAGE.block("The account book", "toml")
+LOG = PAGE.block("The lines of the protocol and of the log", "")
+NUMBERED = PAGE.block("Numbered lines", "")
+COMMANDS = PAGE.block("Many logs", "")
+GRAMMAR = PAGE.block("The grammar of the lines", "abnf")
+TRANSCRIPT = DOORS.block("A session")
+LETS_IN = DOORS.block("Who has logged in", "python")
 LOGIN, TWO_SESSIONS = "clean sessions=1 accepted=1 codes=0", "clean sessions=2 accepted=0 codes=0"
-
-
-def block(title: str, language: str = "", page: Path = DOCUMENT) -> str:
-    """The only block in this language in the section of a page with this title."""
-    [text] = [text for *place, text in blocks_of(page) if place == [title, language]]
-    return text
-
-
-BOOK = block("The account book", "toml")
-LOG = block("The lines of the protocol and of the log")
-NUMBERED = block("Numbered lines")
-COMMANDS = block("Many logs")
-GRAMMAR = block("The grammar of the lines", "abnf")
-TRANSCRIPT = block("A session", "sh", DOORS)
-LETS_IN = block("Who has logged in", "python", DOORS)
-# Before a line that a transcript shows as printed.
-SHOWN = "#> "
 
 # The rules of RFC 5234, appendix B.1, that the grammar cites.
 CORE = {"SP": "%x20", "LF": "%x0A", "DIGIT": "%x30-39"}
@@ -70,21 +59,6 @@ BAD = {
 }
 
 
-def with_files(folder: str, **logs: str) -> dict[str, str]:
-    """Puts these logs into a folder, each with the book, and returns the environment of a run that finds the program."""
-    here = Path(folder)
-    for name, log in logs.items():
-        (here / f"{name}.toml").write_text(BOOK)
-        (here / f"{name}.log").write_text(log)
-    return program_on_path(folder)
-
-
-def ran(folder: str, commands: str, environment: dict[str, str]) -> tuple[int, list[str], str]:
-    """The status, the output lines and the faults of commands run in a folder."""
-    status, output, faults = processes.ran(["sh", "-c", commands], cwd=folder, env=environment)
-    return status, sorted(output.splitlines()), faults
-
-
 def the_book(folder: str) -> None:
     """The book has the form in which a command saves it: a save leaves its text unchanged."""
     held = suite.BookFolder(folder, BOOK)
@@ -102,16 +76,21 @@ def the_logs(folder: str) -> None:
 
 def many_logs(folder: str) -> None:
     """Each log has its answer, and the status is 123 if one is at fault. A compressed log is read from a pipe."""
-    lines = COMMANDS.splitlines(keepends=True)
-    [at] = [at for at, line in enumerate(lines) if line.startswith("parallel ")]
-    each_log, zipped = "".join(lines[:at]), "".join(lines[at + 1:])
-    environment = with_files(folder, a=LOG, b=NUMBERED)
-    equal(ran(folder, each_log, environment), (0, [f"a.log: {LOGIN}", f"b.log: {TWO_SESSIONS}"], ""), each_log, "each log is clean")
-    Path(folder, "b.log").write_text(NUMBERED.removesuffix("1 E\n"))
-    equal(ran(folder, each_log, environment), (123, [f"a.log: {LOGIN}", "b.log: line 8: cut"], ""), each_log, "a log is cut")
-    Path(folder, "old.toml").write_text(BOOK)
-    Path(folder, "old.log.gz").write_bytes(gzip.compress(LOG.encode()))
-    equal(ran(folder, zipped, environment), (0, [LOGIN], ""), zipped)
+    each_log, left_out, zipped = re.split(r"^(parallel .*\n)", COMMANDS, flags=re.M)
+    here, due = Path(folder), [f"a.log: {LOGIN}", f"b.log: {TWO_SESSIONS}"]
+    for name in "a", "b", "old":
+        (here / f"{name}.toml").write_text(BOOK)
+    (here / "a.log").write_text(LOG)
+    (here / "old.log.gz").write_bytes(gzip.compress(LOG.encode()))
+    for trial, (log, commands, status, lines) in each([
+        (NUMBERED, each_log, 0, due),
+        (NUMBERED.removesuffix("1 E\n"), each_log, 123, [due[0], "b.log: line 8: cut"]),
+        (NUMBERED, zipped, 0, [LOGIN]),
+    ]):
+        with trial:
+            (here / "b.log").write_text(log)
+            answer = processes.ran(["sh", "-c", commands], cwd=folder, env=program_on_path(folder))
+            equal((answer.status, sorted(answer.output.splitlines()), answer.faults), (status, lines, ""), commands)
 
 
 @functools.cache
@@ -181,13 +160,12 @@ def the_grammar(folder: str) -> None:
 def a_session_of_a_hall(folder: str) -> None:
     """The command of docs/DOORS.md prints what is shown below it: the login that this page has in a log, and a code. An audit calls it
     clean."""
-    environment = with_files(folder, book="")
-    command = "".join(line for line in TRANSCRIPT.splitlines(True) if not line.startswith(SHOWN))
-    shown = "".join(line.removeprefix(SHOWN) for line in TRANSCRIPT.splitlines(True) if line.startswith(SHOWN))
-    equal(processes.ran(["bash", "-c", command], cwd=folder, env=environment), (0, shown, ""), command)
+    held = suite.BookFolder(folder, BOOK)
+    held.book.rename(Path(folder, "book.toml"))
+    printed = shows(folder, TRANSCRIPT)
     login = [f"1 {line}" for line in LOG.splitlines()[1:-2]]
-    equal(shown.splitlines()[1:len(login) + 1], login, "the lines of the login")
-    suite.BookFolder(folder, BOOK).audited(shown, "clean sessions=1 accepted=1 codes=1")
+    equal(printed.splitlines()[1:len(login) + 1], login, "the lines of the login")
+    held.audited(printed, "clean sessions=1 accepted=1 codes=1")
 
 
 def let_in(lines: list[str], needs_code: bool) -> list[tuple[str, tuple[str, str]]]:
@@ -226,8 +204,7 @@ def who_has_logged_in(folder: str) -> None:
 
 def every_block(folder: str) -> None:
     """No block of the document is left out."""
-    taken = [BOOK, LOG, NUMBERED, GRAMMAR, COMMANDS]
-    equal([text for *_, text in blocks_of(DOCUMENT) if text not in taken], [], "blocks that no test takes")
+    equal(PAGE.left, [], "blocks that no test takes")
 
 
 suite.run_all()

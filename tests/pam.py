@@ -14,18 +14,18 @@ from pathlib import Path
 
 import needs
 import suite
+from blocks import TOOLS, Page
 from checks import equal, holds
 from clients import Account, book
 from expected import code
 from processes import Answer, Running, ran, until
-from suite import CODES, TOP, audit_says, blocks_of, each, hotp, program_on_path
-from tool_runs import TOOLS
+from suite import CODES, TOP, audit_says, each, hotp, program_on_path
 
 LOGIN, CODE = TOP / "hosts/check-login", TOOLS / "check-code"
 USER = Account("user", "SCRAM-SHA-256")
 PASSWORD = f"password of {USER.name}"
 WRAPPER = "/usr/lib/x86_64-linux-gnu/libpam_wrapper.so"
-SERVICES = [block for title, _, block in blocks_of(suite.document("docs/DOORS.md")) if title == "PAM"]
+SERVICES = Page("docs/DOORS.md").blocks("PAM", 2, "")
 
 
 @contextlib.contextmanager

@@ -29,13 +29,13 @@ from pathlib import Path
 
 import clients
 import suite
+from blocks import TOOLS, Page, book_of, code_of_now, does, ran, start, token_of_now, with_tools
 from checks import equal, holds
 from clients import Account
 from expected import MECHS
 from limits import limit
 from processes import LIMIT, LIMIT_OF_LINES, Running, until
-from suite import BOOK_OF_USER, blocks_of, each, seen
-from tool_runs import TOOLS, book_of, code_of_now, does, ran, start, token_of_now, with_tools
+from suite import BOOK_OF_USER, each, seen
 
 # What `line_of` returns for a client that waits in vain.
 NOTHING = "nothing in time"
@@ -43,8 +43,7 @@ NOTHING = "nothing in time"
 PATIENCE = limit(5)
 # The longest line of a client that a log can have whole: a mechanism's name of 20 characters, and a message of 2048 bytes, all escaped.
 LONGEST = f"AUTH {'X' * 20} :{'%25' * 2048}"
-OPERATING = TOOLS.parent / "docs" / "OPERATING.md"
-[SERVE] = [block for title, _, block in blocks_of(OPERATING) if title == "Serve logins with `serve-hall`"]
+SERVE = Page("docs/OPERATING.md").block("Serve logins with `serve-hall`")
 # Its commands without the parentheses, and with the tool replacing the shell, so that signals reach it.
 START = SERVE.removeprefix("(\n").removesuffix(")\n").replace("tools/", "exec tools/")
 

@@ -1,5 +1,5 @@
 """What several scripts share: the account `user` with RFC 4226's secret, a folder with a book, the program on the PATH, the user nobody,
-the words of a login, the page that is tested, questions about books, locks and logs, and the run of all tests or of some."""
+the words of a login, questions about books, locks and logs, and the run of all tests or of some."""
 import contextlib
 import fcntl
 import functools
@@ -163,19 +163,6 @@ def program_on_path(folder: str | pathlib.Path, **more: Any) -> dict[str, str]:
 def fault_text(fault: str) -> str:
     """The text on standard error for a fault, which is given without its prefix, or for no fault."""
     return f"scramotp: {fault}\n" if fault else ""
-
-
-def document(usual: str) -> pathlib.Path:
-    """The page that a script tests: the one that DOCUMENT=PATH in the environment names, or its usual one."""
-    return pathlib.Path(os.environ.get("DOCUMENT") or TOP / usual)
-
-
-def blocks_of(page: pathlib.Path) -> Iterator[tuple[str, str, str]]:
-    """Each block in a section of a document: the section's title, the block's language and its text."""
-    sections = re.split(r"^## (.*)\n", page.read_text(encoding="utf-8"), flags=re.M)
-    for title, text in zip(sections[1::2], sections[2::2]):
-        for language, block in re.findall(r"^```(\w*)\n(.*?)^```$", text, re.M | re.S):
-            yield title, language, block
 
 
 def is_locked(path: str | pathlib.Path) -> bool:

@@ -13,6 +13,7 @@ import time
 from pathlib import Path
 
 import suite
+from blocks import Page
 from booted import Machine, booted
 from checks import equal, holds
 from clients import Account, book
@@ -23,7 +24,7 @@ from processes import ran, until
 
 USER = Account("user", "SCRAM-SHA-256")
 NAME = "scramotp-dovecot-auth"
-PAGE = suite.document("docs/DOORS.md")
+PAGE = Page("docs/DOORS.md")
 # How the program is started that a machine needs.
 NEEDED = ["dpkg-deb", "ip", "nsenter", "unshare", "/lib/systemd/systemd"]
 
@@ -83,13 +84,11 @@ def a_unit_at_work(folder: str) -> None:
 def typed(title: str) -> str:
     """The commands of a section of the page, but for the installation of what is installed here. The lines that an editor is to add are
     those of the section's other block, and the one that the comment names."""
-    blocks = {language: text for section, language, text in suite.blocks_of(PAGE) if section == title}
-
     def added(found: re.Match[str]) -> str:
-        lines = blocks[""] + (found[2] + "\n" if found[2] else "")
+        lines = PAGE.block(title, "") + (found[2] + "\n" if found[2] else "")
         return f"cat >>{found[1]} <<'END'\n{lines}END"
 
-    script = re.sub(r"^editor (\S+) +# add the lines above(?:, at its end|, and: (.*))?$", added, blocks["sh"], flags=re.M)
+    script = re.sub(r"^editor (\S+) +# add the lines above(?:, at its end|, and: (.*))?$", added, PAGE.block(title), flags=re.M)
     return re.sub(r"^apt install .*\n", "", script, flags=re.M)
 
 
@@ -167,7 +166,7 @@ def codes_for_sshd(folder: str) -> None:
         equal(machine.does(BY_KEY), "in\n", "a login by the key alone")
         machine.does(typed("Codes for sshd"))
         equal(machine.runs(ASKED.format("000000")).status, 255, "what ssh says to a user without a token")
-        made = [text for title, _, text in suite.blocks_of(suite.TOP / "docs/OPERATING.md") if title == "Give a user one-time codes"][0]
+        made = [text for title, _, text in Page("docs/OPERATING.md").all if title == "Give a user one-time codes"][0]
         secret = machine.does("set +e; cd /etc/scramotp\n" + made.replace("name=user@example.org", "name=user"))
         now = int(time.time()) // 30
         for step, status, state in [(now, 0, f"last {now}, 0"), (now, 255, f"last {now}, 1"), (now + 1, 0, f"last {now + 1}, 0")]:

@@ -15,12 +15,12 @@ import signal
 from pathlib import Path
 
 import suite
+from blocks import (
+    NAME, TOO_DEEP, book_of, code_of_now, does, enrolled, has_keys_of, ran, start, token_of_now, with_tools, without_keys,
+)
 from checks import equal, holds
 from processes import until
 from suite import BOOK_OF_USER, CODES, each, hotp
-from tool_runs import (
-    NAME, TOO_DEEP, book_of, code_of_now, does, enrolled, has_keys_of, ran, start, token_of_now, with_tools, without_keys,
-)
 
 
 def a_password_of_any_name(folder: str) -> None:
