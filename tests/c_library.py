@@ -12,7 +12,6 @@ import functools
 import os
 import pathlib
 import re
-import shutil
 import subprocess
 import sys
 from collections.abc import Callable, Iterator
@@ -23,7 +22,7 @@ from c_support import ARCHIVES, DECOY_KEY, FUNCTIONS, MADE, WARNINGS, answer_to,
 from checks import equal, holds
 from expected import DATA, VECTORS, code, rows_of
 from processes import ran
-from suite import CODES, SEEDS, TOP, each, not_tested
+from suite import CODES, SEEDS, TOP, each, has, not_tested
 
 EXAMPLES = TOP / "clib/examples"
 
@@ -112,10 +111,7 @@ LANGUAGES: list[tuple[str, Callable[[], list]]] = [
 @functools.cache
 def commands() -> list[list]:
     """The command of each example whose compiler is on this machine."""
-    for compiler, _ in LANGUAGES:
-        if not shutil.which(compiler):
-            not_tested(f"the example for {compiler}, which is not installed")
-    return [made() for compiler, made in LANGUAGES if shutil.which(compiler)]
+    return [made() for compiler, made in LANGUAGES if has(f"the example for {compiler}", compiler)]
 
 
 class Login(NamedTuple):
@@ -165,8 +161,7 @@ def code_example(folder: str) -> None:
 
 def under_valgrind(folder: str) -> None:
     """Valgrind finds no fault in the examples in C."""
-    if not shutil.which("valgrind"):
-        not_tested("the examples in C under valgrind, which is not installed")
+    if not has("the examples in C under valgrind", "valgrind"):
         return
     watched, login = ["valgrind", "-q", "--error-exitcode=9"], in_c()
     for trial, of in each([SHA1, SHA256]):

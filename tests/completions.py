@@ -21,7 +21,7 @@ import suite
 from checks import equal, holds
 from help_pages import listed_commands, listed_options
 from processes import ran, until
-from suite import BOOK_OF_USER, PROGRAM, TOP, each, not_tested
+from suite import BOOK_OF_USER, PROGRAM, TOP, each, has
 
 FOLDER = TOP / "completions"
 BASH = FOLDER / "scramotp.bash"
@@ -203,10 +203,10 @@ def names(folder: str) -> None:
 
 def names_in_zsh(folder: str) -> None:
     """The same in zsh, for one name at a time."""
-    if not shutil.which("zsh"):
-        return not_tested("the names that zsh offers, which is not here")
+    if not has("the names that zsh offers", "zsh"):
+        return
     with_books(folder)
-    return completed(folder, "zsh", [
+    completed(folder, "zsh", [
         ("scramotp ver\t", ["verify"]),
         ("scramotp verify --book book.toml --name user@\t", ["verify", "--book", "book.toml", "--name", "user@example.org"]),
         ("scramotp verify --book book.toml --name \\$\\(\t", ["verify", "--book", "book.toml", "--name", "$(touch ran)"]),
@@ -221,8 +221,8 @@ def names_in_zsh(folder: str) -> None:
 
 def names_in_fish(folder: str) -> None:
     """fish offers each name as it is, which it quotes itself, and runs nothing."""
-    if not shutil.which("fish"):
-        return not_tested("the names that fish offers, which is not here")
+    if not has("the names that fish offers", "fish"):
+        return
     with_books(folder)
     environment = installed(folder)
     for trial, (line, due) in each([
@@ -239,17 +239,14 @@ def names_in_fish(folder: str) -> None:
             status, output, faults = ran(words, cwd=folder, env=environment)
             equal((status, faults, Path(folder, "ran").exists()), (0, "", False), line, output)
             equal(sorted(it.partition("\t")[0] for it in output.splitlines()), sorted(due), "what fish offers for", line)
-    return None
 
 
 def syntax(folder: str) -> None:
     """Each shell finds its file well-formed."""
     for trial, (shell, name) in each([("bash", "scramotp.bash"), ("zsh", "_scramotp"), ("fish", "scramotp.fish")]):
         with trial:
-            if shutil.which(shell):
+            if has(f"the completions of {shell}", shell):
                 equal(ran([shell, "-n", FOLDER / name]), (0, "", ""), name)
-            else:
-                not_tested(f"the completions of {shell}, which is not here")
 
 
 suite.run_all()

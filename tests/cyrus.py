@@ -25,7 +25,7 @@ from cyrus_support import folder_of, fresh, hexed, message, plugin, stored_keys
 from expected import VECTORS, rows_of
 from mail_servers import free_port, postfix
 from processes import Running, ran, until
-from suite import TOP, each, not_tested
+from suite import TOP, each, has, not_tested
 
 SCRAMS = ["SCRAM-SHA-256", "SCRAM-SHA-1"]
 SANITIZERS = ["-g", "-fsanitize=address,undefined", "-fno-sanitize-recover=all"]
@@ -233,13 +233,6 @@ def one_connection(folder: str) -> None:
 
 
 # ---- real servers and clients
-
-
-def has(what: str, *needed: str) -> bool:
-    """Whether these commands and files are there. If not, the script says what it does not test, and why."""
-    if missing := needs.lacking(needed):
-        not_tested(f"{what}, since {' and '.join(missing)} is not installed")
-    return not missing
 
 
 class Sample:

@@ -23,7 +23,7 @@ from expected import DATA
 from installs import ENVIRONMENT, due_files, made
 from limits import limit
 from processes import ran
-from suite import KEYS_OF_PENCIL, PROGRAM, SALT, TOP, each, not_tested
+from suite import KEYS_OF_PENCIL, PROGRAM, SALT, TOP, each, has, not_tested
 
 # 2026-11-30 04:00 UTC: the time of each file.
 MOMENT = 1796011200
@@ -32,14 +32,6 @@ DOC = "usr/share/doc/scramotp"
 MORE = {f"{DOC}/copyright", f"{DOC}/changelog.gz", "usr/share/lintian/overrides/scramotp"}
 # What a system has of packages that it had.
 NOTES_OF_DPKG = re.compile(r"/var/(?:lib/dpkg|log|cache)(?:/|$)")
-
-
-def has(command: str, what: str) -> bool:
-    """Whether there is this command. If not, the script says that this is not tested."""
-    if not shutil.which(command):
-        not_tested(f"{what}, since there is no {command}")
-        return False
-    return True
 
 
 def packaged(folder: str | pathlib.Path, **how: int) -> pathlib.Path:
@@ -54,7 +46,7 @@ def packaged(folder: str | pathlib.Path, **how: int) -> pathlib.Path:
 def same_bytes(folder: str) -> None:
     """`make deb`, and the script with another umask and in another folder, make the same bytes. Without a time, with too few words, or of a
     program that is older than its sources, the script makes nothing."""
-    if not has("dpkg-deb", "the package for Debian"):
+    if not has("the package for Debian", "dpkg-deb"):
         return
     one, other = pathlib.Path(folder, "one"), pathlib.Path(folder, "other")
     other.mkdir()
@@ -96,7 +88,7 @@ def in_debian(place: str, text: bytes) -> tuple[str, bytes]:
 def contents(folder: str) -> None:
     """The package has what `make install` installs, and MORE, with the right bytes and modes. All belongs to root, and has the same time.
     Its checksums are those of the files, its version is the program's, and its license that of the repository."""
-    if not has("dpkg-deb", "the package for Debian"):
+    if not has("the package for Debian", "dpkg-deb"):
         return
     package = packaged(folder)
     entries = entries_of(package)
@@ -123,7 +115,7 @@ def contents(folder: str) -> None:
 
 def lintian(folder: str) -> None:
     """lintian finds no fault in the package, and warns of none."""
-    if has("dpkg-deb", "the package for Debian") and has("lintian", "the rules for packages of Debian"):
+    if has("the package for Debian", "dpkg-deb") and has("the rules for packages of Debian", "lintian"):
         words = ["lintian", "--fail-on", "error,warning", *["--allow-root"] * suite.ROOT, packaged(folder)]
         equal(ran(words), (0, "", ""), "what lintian says")
 
@@ -178,7 +170,7 @@ def in_a_fresh_debian(folder: str) -> None:
     """The package installs in a fresh Debian, and works there. Once it is purged, nothing of it is left."""
     if os.environ.get("FRESH") != "yes" or not suite.ROOT:
         return not_tested("the installation in a fresh Debian, which takes root and FRESH=yes, as make test-all sets it")
-    if not (has("dpkg-deb", "the package for Debian") and has("mmdebstrap", "the installation in a fresh Debian")):
+    if not (has("the package for Debian", "dpkg-deb") and has("the installation in a fresh Debian", "mmdebstrap")):
         return None
     package = packaged(folder)
     if root := fresh_root(folder, package):

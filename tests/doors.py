@@ -18,7 +18,6 @@ from base64 import b64encode
 from collections.abc import Callable, Iterator
 from pathlib import Path
 
-import needs
 import suite
 from blocks import Page, filled
 from checks import equal, holds
@@ -27,7 +26,7 @@ from limits import limit
 from mail_servers import Door, Server, dovecot_auth, free_port, listens, postfix
 from needs import EXIM
 from processes import Answer, ran, until
-from suite import PROGRAM
+from suite import PROGRAM, has
 
 # Gives Exim a user that the machine has not.
 WRAPPER = "/usr/lib/x86_64-linux-gnu/libnss_wrapper.so"
@@ -37,16 +36,6 @@ OTHER, ODD, LIST = "bob@example.org", "x=y,z", "list=a,b"
 SCRAMS = ["SCRAM-SHA-256", "SCRAM-SHA-1"]
 BY_PASSWORD = ["PLAIN", "LOGIN"]
 PAGE = Page("docs/DOORS.md")
-
-
-def has(what: str, *needed: str) -> bool:
-    """Whether root runs the script, and these commands and files are there. If not, the script says what it does not test, and why."""
-    missing = [f"{it} is not installed" for it in needs.lacking(needed)]
-    if not suite.ROOT:
-        missing.append("root does not run this")
-    if missing:
-        suite.not_tested(f"{what}, since {' and '.join(missing)}")
-    return not missing
 
 
 def configuration(title: str, changes: dict[str, str]) -> str:
@@ -311,7 +300,7 @@ def told(path: Path, *lines: str) -> str:
 def differences_from_dovecot(folder: str) -> None:
     """The same lines to the door and to Dovecot's own auth service: most are answered alike. docs/DOORS.md has each difference, with its
     reason."""
-    if not has("Dovecot's auth service", "dovecot"):
+    if not has("Dovecot's auth service", "dovecot", root=True):
         return
     user = Account("user", "SCRAM-SHA-256")
     hello, settings = [f"VERSION\t1\t0\nCPID\t{os.getpid()}"], "service=imap\tno-penalty"
@@ -363,7 +352,7 @@ def postfix_settings(folder: str) -> str:
 
 def logins_at_postfix(folder: str) -> None:
     """Postfix."""
-    if has("Postfix", "postfix", *CLIENTS):
+    if has("Postfix", "postfix", *CLIENTS, root=True):
         with door_in(folder, 24) as door, postfix(folder, postfix_settings(folder)) as port:
             try_clients(folder, port, door, OF_SMTP)
             smtp_answers(folder, port, door, 535, 454)
@@ -372,9 +361,9 @@ def logins_at_postfix(folder: str) -> None:
 def has_exim(what: str, *needed: str) -> bool:
     """Whether Exim is installed or unpacked, and the rest is there."""
     if Path("/usr/sbin/exim4").exists():
-        return has(what, *needed)
+        return has(what, *needed, root=True)
     if (EXIM / "usr/sbin/exim4").exists():
-        return has(what, *needed, WRAPPER)
+        return has(what, *needed, WRAPPER, root=True)
     suite.not_tested(f"{what}, since Exim is neither installed nor unpacked")
     return False
 
@@ -413,7 +402,7 @@ def mailboxes(folder: str, accepted: int, root: Path | None = None) -> Iterator[
 
 def logins_at_dovecot(folder: str) -> None:
     """Dovecot's IMAP server: a user who is let in has a mailbox in the folder that the door names."""
-    if has("Dovecot", "dovecot", "/usr/lib/dovecot/imap-login", *CLIENTS[:3]):
+    if has("Dovecot", "dovecot", "/usr/lib/dovecot/imap-login", *CLIENTS[:3], root=True):
         with mailboxes(folder, 10) as (door, homes, port, _):
             try_clients(folder, port, door, OF_IMAP)
         holds((homes / NAME / "mail").is_dir(), "the mailbox is not where it should be", [*homes.rglob("*")])
@@ -421,14 +410,14 @@ def logins_at_dovecot(folder: str) -> None:
 
 def logins_by_pop3(folder: str) -> None:
     """Dovecot's POP3 server."""
-    if has("Dovecot's POP3", "dovecot", POP3, "openssl", "curl"):
+    if has("Dovecot's POP3", "dovecot", POP3, "openssl", "curl", root=True):
         with mailboxes(folder, 4) as (door, _, _, port):
             try_clients(folder, port, door, [(over("pop3", by_curl), BY_PASSWORD)])
 
 
 def mails_by_imap(folder: str) -> None:
     """mbsync logs in and fetches a mail from the user's own mailbox."""
-    if has("mbsync", "dovecot", "/usr/lib/dovecot/imap-login", "openssl", "mbsync"):
+    if has("mbsync", "dovecot", "/usr/lib/dovecot/imap-login", "openssl", "mbsync", root=True):
         with mailboxes(folder, 6) as (door, homes, port, _):
             new = homes / NAME / "mail/new"
             for place in [*reversed(new.parents[:3]), new, new.with_name("cur"), new.with_name("tmp")]:
@@ -446,7 +435,7 @@ def root_with_dovecot(folder: str) -> Path | None:
     what, root = "Dovecot 2.4", Path(folder, "root")
     if os.environ.get("FRESH") != "yes":
         return suite.not_tested(f"{what}, which takes FRESH=yes, as make test-all sets it")
-    if not has(what, "mmdebstrap", *CLIENTS[:3]):
+    if not has(what, "mmdebstrap", *CLIENTS[:3], root=True):
         return None
     os.chmod(folder, 0o755)
     # What is mounted below the folder is gone with the process.
@@ -502,7 +491,7 @@ def act_as_others(folder: str, port: int, door: Door, log: str, pattern: str, pr
 
 def others_at_postfix(folder: str) -> None:
     """Users act as others at Postfix."""
-    if has("a login as another at Postfix", "postfix", *CLIENTS[:3]):
+    if has("a login as another at Postfix", "postfix", *CLIENTS[:3], root=True):
         with door_in(folder, 8) as door, postfix(folder, postfix_settings(folder)) as port:
             act_as_others(folder, port, door, "postfix/log", "sasl_method=PLAIN, sasl_username=(.*)")
 
@@ -516,7 +505,7 @@ def others_at_exim(folder: str) -> None:
 
 def others_at_dovecot(folder: str) -> None:
     """Users act as others at Dovecot. Each other one has a mailbox."""
-    if has("a login as another at Dovecot", "dovecot", "/usr/lib/dovecot/imap-login", *CLIENTS[:3]):
+    if has("a login as another at Dovecot", "dovecot", "/usr/lib/dovecot/imap-login", *CLIENTS[:3], root=True):
         with mailboxes(folder, 8) as (door, homes, port, _):
             act_as_others(folder, port, door, "dovecot/log", "Login: user=<(.*)>, method=PLAIN,", "imap")
         equal(sorted(it.name for it in homes.iterdir()), [OTHER, LIST], "who has a mailbox")

@@ -12,7 +12,6 @@ import os
 import random
 import re
 import resource
-import shutil
 import signal
 import socket
 import stat
@@ -29,7 +28,7 @@ from clients import Account, book
 from expected import proved
 from mail_servers import GREETING, SETTINGS, Door, Server, door_of
 from processes import Running, ran, until
-from suite import PROGRAM, TOP, each, program_on_path
+from suite import PROGRAM, TOP, each, has, program_on_path
 
 USER = Account("user", "SCRAM-SHA-256")
 OLD = Account("old=user, odd", "SCRAM-SHA-1")
@@ -474,8 +473,8 @@ def units(folder: str) -> None:
     words = re.search(r"^ExecStart=(\S+) ((?:.*\\\n)*.*)$", service.read_text(), re.M)[2].replace("\\\n", " ").split()
     listens = re.search(r"^ListenStream=(.*)$", service.with_suffix(".socket").read_text(), re.M)[1]
     equal(words[-3:], ["/var/lib/scramotp/book.toml", listens, "/var/lib/scramotp/logs"], "the words of the door")
-    if not shutil.which("systemd-analyze"):
-        return suite.not_tested("what systemd makes of the units, since there is no systemd-analyze")
+    if not has("what systemd makes of the units", "systemd-analyze"):
+        return
     for unit in sorted(place.iterdir()):
         answer = ran(["systemd-analyze", "verify", "--man=no", unit])
         equal([line for line in answer.faults.splitlines() if "scramotp" in line], [], "what systemd says of", unit.name)

@@ -32,7 +32,7 @@ from clients import Account, book, dealt, escaped, gone, logged_in
 from expected import AUDITS, DATA, MECHS, base64_of, decoy_salt, edited_texts, numbered
 from picture import INCIDENT, TOOL
 from processes import Answer, ran
-from suite import PROGRAM, SEEDS, TOP, code, each, hotp, not_tested, program_on_path, totp
+from suite import PROGRAM, SEEDS, TOP, code, each, has, hotp, program_on_path, totp
 
 sys.path.insert(0, str(TOP / "hosts"))
 from scramotp_host.rows import rows
@@ -592,8 +592,8 @@ def in_browser(folder: str | Path, text: str) -> str:
 def pages_in_a_browser(folder: str) -> None:
     """In a browser the page's script shows the field for names, and a name leaves the rows of its sessions. Without scripts all is there
     but the field. Hostile names make no other element."""
-    if not shutil.which("chromium"):
-        return not_tested("how a browser takes a page, since there is no chromium")
+    if not has("how a browser takes a page", "chromium"):
+        return
     page, hidden = Path(folder, "page.html"), '<p id="filter" hidden="">'
     of_log, log = hostile_log(folder, [Account(name, "SCRAM-SHA-256") for name in HOSTILE])
     page_of(folder, of_log, log)
@@ -611,7 +611,6 @@ def pages_in_a_browser(folder: str) -> None:
     found = in_browser(folder, open_to_all.replace("</script>", f"{typed}</script>"))
     rows = found.partition('id="sessions"')[2].partition("</table>")[0]
     equal(re.findall(r'<tr><td class="number">(\d+)</td>', rows), ["7"], "the sessions that a name leaves")
-    return None
 
 
 suite.run_all()

@@ -8,7 +8,6 @@ prints. It runs as it stands, after the examples that its page asks for.
 """
 import ast
 import re
-import shutil
 from collections.abc import Iterator
 from pathlib import Path
 
@@ -16,7 +15,7 @@ import suite
 from checks import equal, holds
 from help_pages import Option, example_ran, listed_commands, listed_options, required_options
 from processes import ran
-from suite import TOP, audit_says, each, not_tested, prints
+from suite import TOP, audit_says, each, has, prints
 
 PAGES = sorted(Path(TOP, "man").iterdir())
 # The pages that are of no command.
@@ -166,6 +165,5 @@ def formats(folder: str) -> None:
     prints(suite.verify_words(book, "59"), f"{code}\n", 0, "PASS 59 0\n")
 
 
-if shutil.which("mandoc"):
+if has("the man pages", "mandoc"):
     suite.run_all()
-not_tested("the man pages, since there is no mandoc")

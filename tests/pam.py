@@ -19,7 +19,7 @@ from checks import equal, holds
 from clients import Account, book
 from expected import code
 from processes import Answer, Running, ran, until
-from suite import CODES, TOP, audit_says, each, hotp, program_on_path
+from suite import CODES, TOP, audit_says, each, has, hotp, program_on_path
 
 LOGIN, CODE = TOP / "hosts/check-login", TOOLS / "check-code"
 USER = Account("user", "SCRAM-SHA-256")
@@ -122,8 +122,7 @@ def service(folder: str, name: str, block: int) -> dict[str, str]:
 
 def by_pamtester(folder: str) -> None:
     """PAM lets in by a password, and by a password and a code in one line, as its services of docs/DOORS.md say."""
-    if missing := needs.lacking(["pamtester", WRAPPER]):
-        suite.not_tested(f"PAM itself, since there is no {', '.join(missing)}")
+    if not has("PAM itself", WRAPPER, "pamtester"):
         return
 
     def authenticates(name: str, environment: dict[str, str], user: str, text: str) -> Answer:

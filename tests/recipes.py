@@ -34,7 +34,7 @@ from book_cases import cases
 from checks import equal, holds
 from expected import AUDITS, DATA, HASHES, VECTORS, base64_of, keys_of, rows_of
 from processes import LIMIT_OF_LINES, until
-from suite import BOOK_OF_USER, CODES, code, each, hotp, is_root, nobody, program_on_path, read_book, totp
+from suite import BOOK_OF_USER, CODES, code, each, has, hotp, is_root, nobody, program_on_path, read_book, totp
 
 PAGE = Page("docs/OPERATING.md")
 # The folder of the tools in the document, and the folder that it makes.
@@ -556,19 +556,12 @@ def who_got_in(folder: str) -> None:
     equal((missing, len(said)), ({"scramotp audit"}, 7), "what the section says that is not on the page", said)
 
 
-def has_analyze() -> bool:
-    """Whether the machine has systemd-analyze. If not, it is said what is not tested."""
-    if not shutil.which("systemd-analyze"):
-        suite.not_tested("what systemd makes of the units, since there is no systemd-analyze")
-    return shutil.which("systemd-analyze") is not None
-
-
 def a_new_log_each_night(folder: str) -> None:
     """The command of the timer's service restarts the unit that the page names, and systemd knows the timer's time."""
     equal(command_of(NIGHT), "systemctl try-restart scramotp-hall.service", "the command at night")
     holds("`/etc/systemd/system/scramotp-hall.service`" in PAGE.text, "the page does not name the unit")
     at = command_of(TIMER, "OnCalendar")
-    if has_analyze():
+    if has("what systemd makes of the units", "systemd-analyze"):
         status, output, _ = suite.ran(["systemd-analyze", "calendar", at])
         equal((status, "Next elapse" in output), (0, True), at, output)
 
@@ -577,7 +570,7 @@ def units_are_known(folder: str) -> None:
     """systemd knows each key and value of the units, and not a key whose first two letters change places. It is not run: its command
     `systemd-analyze verify` reads them. What that says of other units of the machine is left out. A timer is read beside the service before
     it in the page, which it starts."""
-    if not has_analyze():
+    if not has("what systemd makes of the units", "systemd-analyze"):
         return
     before = ""
     for trial, (title, _, unit) in each([block for block in PAGE.all if block[1] == "ini"]):

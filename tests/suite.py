@@ -19,6 +19,7 @@ from typing import Any, NoReturn
 
 import checks
 import expected
+import needs
 import processes
 from checks import equal, fail, holds
 from limits import limit
@@ -58,6 +59,15 @@ def as_nobody() -> dict[str, Any]:
 def not_tested(what: str) -> None:
     """Says, once, what this machine can't test, and why. run.py and planted.py look for such lines."""
     print(f"{os.path.basename(sys.argv[0])}: not tested: {what}", file=sys.stderr)
+
+
+def has(what: str, *needed: str, root: bool = False) -> bool:
+    """Whether these commands and files are there, and root runs the script if only root can test it. If not, the script says what it does
+    not test, and why."""
+    missing = [f"{it} is not installed" for it in needs.lacking(needed)] + ["root does not run this"] * (root and not ROOT)
+    if missing:
+        not_tested(f"{what}, since {' and '.join(missing)}")
+    return not missing
 
 
 def is_root() -> bool:

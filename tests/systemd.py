@@ -19,8 +19,9 @@ from checks import equal, holds
 from clients import Account, book
 from expected import code
 from mail_servers import Server
-from needs import PACKAGES, lacking
+from needs import PACKAGES
 from processes import ran, until
+from suite import has
 
 USER = Account("user", "SCRAM-SHA-256")
 NAME = "scramotp-dovecot-auth"
@@ -31,14 +32,12 @@ NEEDED = ["dpkg-deb", "ip", "nsenter", "unshare", "/lib/systemd/systemd"]
 
 def can_boot(what: str) -> bool:
     """Whether this machine can make another one. If not, the script says what it does not test, and why."""
-    missing = [f"{it} is not installed" for it in lacking(NEEDED)]
-    if not suite.ROOT:
-        missing.append("root does not run this")
-    elif not missing and ran(["unshare", "--mount", "--pid", "--fork", "--net", "mount", "-t", "tmpfs", "none", "/mnt"]).status:
-        missing.append("namespaces can't be made")
-    if missing:
-        suite.not_tested(f"{what}, since {' and '.join(missing)}")
-    return not missing
+    if not has(what, *NEEDED, root=True):
+        return False
+    answer = ran(["unshare", "--mount", "--pid", "--fork", "--net", "mount", "-t", "tmpfs", "none", "/mnt"])
+    if answer.status:
+        suite.not_tested(f"{what}, since namespaces can't be made")
+    return not answer.status
 
 
 def with_book(machine: Machine) -> None:
@@ -176,13 +175,6 @@ def codes_for_sshd(folder: str) -> None:
             told = machine.does("cat asked; cd /etc/scramotp; tools/list-accounts book.toml")
             due = f"(user@localhost) Password: \nuser: sha1 keys, sha256 keys, totp token ({state} failures)\n"
             equal(told, due, "the prompt, and what the book has")
-
-
-def has(what: str, *commands: str) -> bool:
-    """Whether these commands and files are there. If not, the script says what it does not test."""
-    if missing := lacking(commands):
-        suite.not_tested(f"{what}, since there is no {', '.join(missing)}")
-    return not missing
 
 
 def logs_of(machine: Machine) -> list[str]:
