@@ -1,8 +1,6 @@
 #!/usr/bin/env python3
 """Compares the built program's answers to account books, most of them faulty, with a table.
 
-Usage: book_faults.py PROGRAM [TEST ..]
-
 The table is data/book_faults/cases.csv. Each fault number occurs at each place that can have it, and of a book with two faults, the table
 says which is named. A book is judged before a name is looked up, and a book that is refused is left as it is.
 """

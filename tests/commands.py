@@ -1,8 +1,5 @@
 #!/usr/bin/env python3
-"""What the built program prints, with which status it ends, and what it writes to a book, case by case.
-
-Usage: commands.py PROGRAM [TEST ..]
-"""
+"""What the built program prints, with which status it ends, and what it writes to a book, case by case."""
 import itertools
 import os
 import re

@@ -1,8 +1,6 @@
 #!/usr/bin/env python3
 """Tests the plug-in for Cyrus SASL: logins in Cyrus's library, in its sample server and in OpenLDAP's, by Cyrus's and GNU SASL's clients.
 
-Usage: cyrus.py PROGRAM [TEST ..]
-
 PROGRAM is not run. `make plugin` compiles the plug-in, with the library for C that c_library.py tests. cyrus_server.c is a server that
 hands on any message at any moment; its accounts are in a store of Cyrus's, the file of libsasldb. What a client says is computed here with
 Python's hmac and hashlib, or said by a real client.

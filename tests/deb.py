@@ -1,8 +1,6 @@
 #!/usr/bin/env python3
 """Makes the package for Debian of the program, looks into it, and installs it.
 
-Usage: deb.py PROGRAM [TEST ..]
-
 With FRESH=yes in the environment, root installs the package in a fresh Debian below a temporary folder, which mmdebstrap makes from the
 packages of this machine's release, and removes it again. That takes over a minute. Needs `dpkg-deb`, and `lintian` for one test.
 """

@@ -185,20 +185,16 @@ def misplaced_names(page: Path, texts: dict[str, str]) -> Iterator[str]:
 
 
 def words_of_scripts() -> set[str]:
-    """The words in the tests, the benchmarks, the tools, the hosts, the Makefile and the lists of crates."""
+    """The words in the tests, the benchmarks, the tools, the hosts, the Makefile and the lists of crates, and the names of these files."""
     files = [TOP / "Makefile", TOP / "crates.txt", rattle.LISTED, *TOP.glob("tests/*.*"), *TOP.glob("bench/*.py"), *TOP.glob("tools/*")]
     files += [*HOSTS, *TOP.glob("packaging/*.py")]
-    return {word for file in files for word in re.findall(r"[\w-]+", file.read_text(encoding="utf-8"))}
+    return {word for file in files for word in [file.stem, *re.findall(r"[\w-]+", file.read_text(encoding="utf-8"))]}
 
 
 def untold_tests() -> Iterator[str]:
-    """The files in this folder that docs/TESTING.md does not name, and scripts that take a program but are not run by run.py."""
+    """The files in this folder that docs/TESTING.md does not name."""
     told = (TOP / "docs" / "TESTING.md").read_text(encoding="utf-8")
-    for path in sorted(TOP.glob("tests/*.py")):
-        takes_program = f"Usage: {path.name} PROGRAM" in path.read_text(encoding="utf-8")
-        is_run = path.name in run.TESTS or path.name == "run.py" or not takes_program
-        if f"`{path.name}`" not in told or not is_run:
-            yield path.name
+    yield from (path.name for path in sorted(TOP.glob("tests/*.py")) if f"`{path.name}`" not in told)
 
 
 def unused_functions() -> Iterator[str]:
@@ -373,7 +369,7 @@ CHECKS = [
     Check("the kit of the Makefile is missing", pages_of_another_kit),
     Check("docs/PROMISES.md says that no source has this word", taken_unproved),
     Check("docs/editions/ has another text than the sources give", stale_editions),
-    Check("run.py does not run this script, or docs/TESTING.md does not name it", untold_tests),
+    Check("docs/TESTING.md does not name this script", untold_tests),
     Check("its script never uses this function", unused_functions),
     Check("this function has an argument without its type, or does not give that of its result", untyped_functions),
     Check("this loop over a table may end before its last row", left_tables),

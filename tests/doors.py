@@ -1,8 +1,6 @@
 #!/usr/bin/env python3
 """Logs in at real mail servers whose logins `hosts/serve-dovecot-auth` judges, with real clients, and audits the logs.
 
-Usage: doors.py PROGRAM [TEST ..]
-
 Postfix, Exim and Dovecot serve on the loopback, over TLS, configured as docs/DOORS.md says. msmtp, gsasl, curl, swaks and mbsync log in by
 SCRAM-SHA-256, SCRAM-SHA-1, PLAIN and LOGIN, with the right password, a wrong one, and names that have no account or are odd, and act as
 others. The journal of the door has to say the same as the client. `needs.py --install` installs these servers and clients; Exim, which

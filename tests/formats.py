@@ -2,8 +2,6 @@
 """Checks each block of docs/FORMATS.md: the book and the logs are good ones, and the commands do what the page says they do. Checks two of
 docs/DOORS.md too: a session of a hall, which is the one of docs/FORMATS.md, and the code that decides whom to let in.
 
-Usage: formats.py PROGRAM [TEST ..]
-
 The login of RFC 5802's user is the recorded one, data/audits/sha1.log. All commands for many logs are run, except that with `parallel`.
 The grammar has the lines that audit_cases.py says are lines, and no others. A block that no test checks is a fault.
 """

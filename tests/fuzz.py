@@ -2,8 +2,6 @@
 """Gives the built program random input: words of `code` and `keys`; lines of `verify`, for tokens with random keys; and books, logs and
 events of a hall, a few edits from good ones.
 
-Usage: fuzz.py PROGRAM [TEST ..]
-
 Every run has to end within 2 seconds of processor time, not by a signal, with status 0, 1 or 2 and a documented fault. If a
 command accepts its input, Python checks what follows: the code (RFC 4226, RFC 6238) and the keys (RFC 5802); the replies to lines and the
 token that they leave, by token_model.py; the text of the book, with tomllib, and that a second save leaves it as it is; that a log's lines

@@ -2,8 +2,6 @@
 """Halls over one book that are killed before any of their calls, while many sessions send codes of one account: no counter passes twice in
 all their logs, the book can always be read, and each log is the beginning of a clean one.
 
-Usage: hall_kill.py PROGRAM [TEST ..]
-
 Two thousand halls, in each of which 64 sessions log in, and 24 of them send 12 codes, each code by two. RUNS in the environment is another
 number of halls. Needs `cc`.
 """

@@ -1,8 +1,6 @@
 #!/usr/bin/env python3
 """Makes reports of logs with `tools/log-report`: who was let in, who was refused and why, as rows, as a table and as a page.
 
-Usage: log_report.py PROGRAM [TEST ..]
-
 The rows of data/audits/cases.csv, in the column `rows`, and those of data/reports/incident.rows were worked out by hand, as were the
 reasons in the tables below; proofs and codes are computed with Python's hmac. The log of the incident has each event but `busy`, and each
 reason, in sessions that interleave. Pages are read with Python's html.parser, and opened in Chromium if that is installed.

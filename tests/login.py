@@ -1,9 +1,6 @@
 #!/usr/bin/env python3
 """What the built program prints for logins over a socket, with which status it ends, and what it leaves. The program itself audits
-most logs, by the book that the login began with.
-
-Usage: login.py PROGRAM [TEST ..]
-"""
+most logs, by the book that the login began with."""
 import os
 import pathlib
 import random

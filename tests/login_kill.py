@@ -2,8 +2,6 @@
 """Logins over one book that are killed before any of their calls, or run at the same time: no counter passes twice in all their logs, the
 book can always be read, and each log is the beginning of a clean one.
 
-Usage: login_kill.py PROGRAM [TEST ..]
-
 Two thousand logins. RUNS in the environment is another number of them. Needs `cc`.
 """
 import pathlib

@@ -1,8 +1,6 @@
 #!/usr/bin/env python3
 """What the machine can do to each command of the built program, and what has to be true afterwards, as one table.
 
-Usage: machine.py PROGRAM [TEST ..]
-
 A full device, streams that are closed, a pipe that nobody reads, a folder in which nothing can be written, a device without room for the
 book, a clock that is set back, or is before 1970 or after the year 9999, a random file that ends, and too few descriptors. TERM, INT, HUP
 and KILL before each call by which a command changes what others see, and while it waits for input; STOP and CONT, by which nothing is

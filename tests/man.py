@@ -1,8 +1,6 @@
 #!/usr/bin/env python3
 """Checks the man pages in man/ as `mandoc` shows them: by its own checks, against the help of each command, and by their examples.
 
-Usage: man.py PROGRAM [TEST ..]
-
 An example is a session of a shell: `$ ` stands before a command, `> ` before each further line of it, and the other lines are what it
 prints. It runs as it stands, after the examples that its page asks for.
 """

@@ -1,8 +1,6 @@
 #!/usr/bin/env python3
 """Lets users in by PAM: passwords by `hosts/check-login`, and one-time codes by `tools/check-code`, both run by pam_exec.
 
-Usage: pam.py PROGRAM [TEST ..]
-
 The commands are first run by themselves, as pam_exec runs them, with hostile input among it. Then pamtester asks PAM, with the services
 that docs/DOORS.md shows. The log of the logins is audited. Needs pamtester and libpam-wrapper, which lets PAM read its services from a
 folder. systemd.py has codes at a real sshd.

@@ -2,8 +2,6 @@
 """Runs each block of docs/OPERATING.md as it stands, except `make install`, `useradd`, paths and the user, and checks what it leaves and
 prints.
 
-Usage: recipes.py PROGRAM [TEST ..]
-
 bash runs each in a folder of its own, and then all but the first in one folder, in their order. Of a systemd unit, the command and the
 credentials are used, except those of the timer, and `systemd-analyze verify` reads it, if the machine has that. The block of `serve-hall`
 is run by serve_hall.py, and edit_book.py and tools.py try the tools where no recipe leads. `make install`, `useradd`, sudo and systemd are

@@ -3,10 +3,7 @@
 lost, and the same call made again succeeds. The crate bench makes the calls: `Desk::begin`, `greet` and `client` one by one, then
 `serve_turn`, then `serve`, whose client is gone if memory ran out; `Hall::begin`, `greet` and `client`; the functions that write
 messages, names and lines, `escape` and `Payload::bytes`; and `Book::read`, `Book::write` and `enrol`. Needs `cc`, and the crate bench
-as built by `rt ci` or `make bench`. What the client of `login` is sent when a request is refused is compared with the book.
-
-Usage: refused_calls.py PROGRAM [TEST ..]
-"""
+as built by `rt ci` or `make bench`. What the client of `login` is sent when a request is refused is compared with the book."""
 import os
 import pathlib
 import re

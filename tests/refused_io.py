@@ -1,8 +1,6 @@
 #!/usr/bin/env python3
 """Makes each system call of each command of the built program go wrong in turn, one in each run.
 
-Usage: refused_io.py PROGRAM [TEST ..]
-
 A call that fails, whether or not it was made, leaves the book whole, with each change that was reported and at most one more. The output
 is the beginning of what is due, or the log of a desk that halted. The fault is the one of docs/FORMATS.md for the file of the call, and for
 what the command was doing with it: FAULTS has them. It is reported with status 3, except that of a call that NOT_TOLD names, which loses

@@ -2,8 +2,6 @@
 """Refuses each request for memory of each command in turn: in one run it alone, in another also all after it. `audit` and `upgrade`, with
 logs of both versions, end with status 3 if a request that they need is refused; an audit of version 2 needs one more than an audit of
 version 1. Every command ends with `no memory` if it can't end well, and the book is whole and has what was reported before. Needs `cc`.
-
-Usage: refused_memory.py PROGRAM [TEST ..]
 """
 import itertools
 import os

@@ -1,8 +1,6 @@
 #!/usr/bin/env python3
 """Connects clients to `tools/serve-hall`, which runs a hall for them, and audits the log that it leaves.
 
-Usage: serve_hall.py PROGRAM [TEST ..]
-
 The tool is started as in the block of docs/OPERATING.md. What the clients send and have to receive is computed with Python's hashlib and
 hmac. A code is judged by the moment at which it comes. The tool goes on if a client is gone before it is greeted, is the 65th, sends a
 line in pieces or no whole line, does not read what it is sent, or sends 16 MB without the end of a line. If its hall is killed, it ends at

@@ -1,8 +1,6 @@
 #!/usr/bin/env python3
 """Runs the first steps of README.md as they stand, and compares each line that they print and each status.
 
-Usage: story.py PROGRAM [TEST ..]
-
 The steps are in the block of the section "Try it", and run in an empty folder, with the program, the tools and the hosts on the PATH.
 """
 import suite

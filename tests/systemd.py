@@ -1,8 +1,6 @@
 #!/usr/bin/env python3
 """Runs the units of hosts/units, as the package for Debian installs them, by a real systemd, and what docs/DOORS.md types for each server.
 
-Usage: systemd.py PROGRAM [TEST ..]
-
 It is that of a machine of the test's own, which booted.py makes of this one: so root has to run this, where systemd and dpkg-deb are
 installed, and namespaces can be made.
 """

@@ -1,8 +1,6 @@
 #!/usr/bin/env python3
 """The prompts that the built program shows at a terminal before it waits for input, and that it shows none elsewhere.
 
-Usage: terminal.py PROGRAM [TEST ..]
-
 Standard input and standard error are both a terminal, or one of them is, and standard output is a pipe. The codes are those of
 RFC 4226, appendix D, the login is that of RFC 5802, section 5, and its keys were computed with Python's hashlib.
 """

@@ -2,8 +2,6 @@
 """Runs the tools in tools/ that are neither `edit-book` nor `serve-hall`, where the recipes of docs/OPERATING.md do not lead: with names,
 books, codes and moments that are unusual.
 
-Usage: tools.py PROGRAM [TEST ..]
-
 What a tool leaves of a book, prints and ends with is compared. Takes the 30 seconds for which `check-code` waits for a book.
 """
 import fcntl

@@ -1,8 +1,6 @@
 #!/usr/bin/env python3
 """Compares what the built program prints with what other software printed.
 
-Usage: vectors.py PROGRAM [TEST ..]
-
 In data/vectors, keys.csv has the keys of passwords, made by GNU SASL and Dovecot, and codes.csv has
 one-time codes, made by oathtool. The last column of a row names the program.
 """
