@@ -1,8 +1,6 @@
 """What the tests and the benchmarks of the library for C share: where the library is, and what a client and a server say in a login."""
 import base64
 import functools
-import hashlib
-import hmac
 import os
 import pathlib
 import re
@@ -10,7 +8,8 @@ import subprocess
 import sys
 import tempfile
 
-from expected import login_keys
+import expected
+from expected import base64_of, login_keys, proved
 
 TOP = pathlib.Path(__file__).resolve().parent.parent
 # The folder with the archives that `rt lib` made, or those that CLIB in the environment names.
@@ -34,11 +33,6 @@ def library() -> pathlib.Path:
     return folder
 
 
-def base64_of(data: bytes) -> str:
-    """The base64 text of some bytes."""
-    return base64.b64encode(data).decode()
-
-
 def answer_to(mechanism: str, first: str, challenge: str, password: bytes, **changed: str) -> tuple[str, str]:
     """The final message of a client that has this password, and the server's signature for it. Parts of the message may be changed: the
     channel field, the nonce, and what is between the nonce and the proof."""
@@ -49,11 +43,10 @@ def answer_to(mechanism: str, first: str, challenge: str, password: bytes, **cha
     unproved = f"c={channel},r={changed.get('nonce', nonce)}{changed.get('more', '')}"
     auth = f"{bare},{challenge},{unproved}".encode()
     client_key, server_key = login_keys(function, password, base64.b64decode(salt), int(count))
-    signature = hmac.digest(hashlib.new(function, client_key).digest(), auth, function)
-    proof = bytes(a ^ b for a, b in zip(client_key, signature))
-    return f"{unproved},p={base64_of(proof)}", f"v={base64_of(hmac.digest(server_key, auth, function))}"
+    proof, signature = proved(function, client_key, server_key, auth)
+    return f"{unproved},p={base64_of(proof)}", f"v={base64_of(signature)}"
 
 
 def decoy_salt(mechanism: str, name: str) -> bytes:
     """The salt of a decoy under the examples' key."""
-    return hmac.digest(DECOY_KEY, mechanism.encode() + b"\0" + name.encode(), "sha256")[:16]
+    return expected.decoy_salt(name, mechanism, DECOY_KEY)

@@ -75,9 +75,9 @@ def proved(function: str, client: bytes, server: bytes, auth_message: bytes) -> 
 DECOY_KEY = bytes(range(32))
 
 
-def decoy_salt(name: str) -> bytes:
-    """The salt in the SCRAM-SHA-1 challenge for a name without an account. The form is this project's own, given in docs/FORMATS.md."""
-    return hmac.digest(DECOY_KEY, b"SCRAM-SHA-1\0" + name.encode(), "sha256")[:16]
+def decoy_salt(name: str, mechanism: str = "SCRAM-SHA-1", key: bytes = DECOY_KEY) -> bytes:
+    """The salt in the challenge for a name without an account. The form is this project's own, given in docs/FORMATS.md."""
+    return hmac.digest(key, f"{mechanism}\0{name}".encode(), "sha256")[:16]
 
 
 def orders_of_turns() -> list[tuple]:
