@@ -73,13 +73,6 @@ def does(folder: str | Path, block: str, text: str = "", printed: str = "", **mo
     equal(ran(folder, block, text, **more), (0, printed, ""), block)
 
 
-def gives(folder: str | Path, block: str, about: str = "") -> str:
-    """Runs a block that has to succeed without a fault, and returns what it prints."""
-    answer = ran(folder, block)
-    equal(answer, (0, answer.output, ""), about or block)
-    return answer.output
-
-
 def refused(folder: str | Path, block: str, faults: str, text: str = "", status: int = 1) -> None:
     """Runs a block that has to say this fault, and to leave the book as it is."""
     before = Path(folder, "book.toml").read_bytes()
@@ -120,7 +113,7 @@ def shows(folder: str | Path, block: str) -> str:
     mark, due = f"{os.urandom(16).hex()} ", steps(block)
     script = "".join(f"{command}printf '{mark}%d\\n' $?\n" for command, _, _ in due)
     path = f"{program_on_path(folder)['PATH']}:{TOOLS}:{TOP / 'hosts'}"
-    parts = re.split(rf"{mark}(\d+)\n", gives(folder, f"PATH={path}\n{script}", "the faults of the story"))
+    parts = re.split(rf"{mark}(\d+)\n", ran(folder, f"PATH={path}\n{script}").given("the faults of the story"))
     found = zip([command for command, *_ in due], map(int, parts[1::2]), parts[0::2])
     equal(dict(enumerate(found, 1)), dict(enumerate(due, 1)), "what the commands do")
     return "".join(parts[0::2])

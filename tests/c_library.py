@@ -166,7 +166,7 @@ def under_valgrind(folder: str) -> None:
         with trial:
             for final, status, said in [(of["final"], 0, "user is logged in as user\n"), (of["final"][:-4] + "AAA=", 1, "refused: 36\n")]:
                 answer = ran([*watched, *login, of["mechanism"], of["salt"], of["nonce"]], f"{of['first']}\n{final}\n")
-                equal((answer.status, answer.faults), (status, said))
+                answer.given(status=status, faults=said)
     for trial, (words, output) in each(CODE_RUNS):
         with trial:
             equal(ran([*watched, compiled(EXAMPLES / "code.c", "code"), *words]), (0, output, ""))
@@ -491,9 +491,7 @@ def sanitized(source: str, to: str, kind: str) -> pathlib.Path | None:
 def fuzzed(folder: str) -> None:
     """Random and changed messages in buffers of exactly their length, and NULL where the length is 0: no call reads or writes outside."""
     if program := sanitized("c_library_fuzz.c", "fuzz", "address,undefined"):
-        answer = ran([program, str(suite.SEED), "20000"])
-        equal((answer.status, answer.faults), (0, ""))
-        seen = {int(it) for it in answer.output.split()}
+        seen = {int(it) for it in ran([program, str(suite.SEED), "20000"]).given().split()}
         holds(seen >= {0, 20, 31, 32, 34, 36, 42, 43, 44, 63, 64, 65, 66, 90, 91, 92, 93}, "numbers that were seen", sorted(seen))
 
 

@@ -200,10 +200,8 @@ def example_of(command: str) -> tuple[list[str], str]:
 def runs_example(folder: str | Path, command: str) -> None:
     """The example of a command runs as it stands, with the program on the PATH; that of `verify` prints the present moment."""
     began = int(time.time())
-    status, output, faults = example_ran(folder, example_of(command)[1])
-    moments = range(began, int(time.time()) + 1)
-    equal((status, faults), (0, ""), command, output)
-    due = [dict(EXAMPLES)[command].format(moment) for moment in moments]
+    output = example_ran(folder, example_of(command)[1]).given(command)
+    due = [dict(EXAMPLES)[command].format(moment) for moment in range(began, int(time.time()) + 1)]
     holds(output in due, f"what the example of {command} prints is none of", due, output)
 
 
@@ -242,10 +240,8 @@ def server_signature(folder: str) -> None:
         b"c=biws,r=rOprNGfwEbeRWgbNEkqO%hvYDpWUa2RaTCAfuxFIlj)hNlF$k0"
     )
     words = keys("SCRAM-SHA-256", "5b6d99689d12358eeca04b141236fa81", "4096")
-    status, output, faults = ran([PROGRAM, *words], "pencil\n")
-    equal((status, faults), (0, ""), output)
-    stored, server = output.splitlines()
-    holds(stored.startswith("stored=") and server.startswith("server="), "the two lines of keys", output)
+    stored, server = ran([PROGRAM, *words], "pencil\n").given().splitlines()
+    holds(stored.startswith("stored=") and server.startswith("server="), "the two lines of keys", stored, server)
     signature = digest(bytes.fromhex(server.removeprefix("server=")), auth_message, "sha256").hex()
     equal(signature, "eabae24d1062db75a9451ff0b6ea7e98c8546549ff741e672d3251b2397de46e", "the signature made with", server)
 

@@ -50,9 +50,8 @@ HOSTILE = [
 
 def offered(lines: list[str]) -> list[list[str]]:
     """What the function of bash offers for each of these lines, with the cursor at its end."""
-    status, output, faults = ran(["bash", "--norc", "--noprofile", "-c", CALLS, "bash", BASH], "".join(f"{it}\n" for it in lines))
-    equal((status, faults), (0, ""), "the calls of the function", output)
-    return [it.split() for it in output.splitlines()]
+    answer = ran(["bash", "--norc", "--noprofile", "-c", CALLS, "bash", BASH], "".join(f"{it}\n" for it in lines))
+    return [it.split() for it in answer.given("the calls of the function").splitlines()]
 
 
 def words(folder: str) -> None:

@@ -36,9 +36,8 @@ def packaged(folder: str | pathlib.Path, **how: int) -> pathlib.Path:
     """The package of the program, made in this folder by a script that is started so."""
     program = shutil.copy(PROGRAM, folder)
     words = ["python3", TOP / "packaging/make_deb.py", program, folder]
-    status, output, faults = ran(words, env={**ENVIRONMENT, "SOURCE_DATE_EPOCH": str(MOMENT)}, **how)
-    equal((status, faults), (0, ""), "how the package was made", output)
-    return pathlib.Path(output.strip())
+    answer = ran(words, env={**ENVIRONMENT, "SOURCE_DATE_EPOCH": str(MOMENT)}, **how)
+    return pathlib.Path(answer.given("how the package was made").strip())
 
 
 def same_bytes(folder: str) -> None:

@@ -195,8 +195,7 @@ def who_has_logged_in(folder: str) -> None:
     for trial, (acts_as, names) in each([([], (name, name)), (["--as", other], (name, other))]):
         with trial:
             login = suite.login_words(book, f"{folder}/socket", *acts_as, name=name)
-            status, log, faults = processes.ran(login, "pencil\n")
-            equal((status, faults), (0, ""), log)
+            log = processes.ran(login, "pencil\n").given(acts_as)
             equal([given for _, given in let_in(log.splitlines(), False)], [names], log)
 
 

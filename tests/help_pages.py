@@ -24,8 +24,7 @@ class Option(NamedTuple):
 
 def help_of(words: list) -> str:
     """The output of --help, whose lines have at most 100 columns."""
-    status, output, faults = ran([PROGRAM, *words, "--help"])
-    equal((status, faults), (0, ""), words, output)
+    output = ran([PROGRAM, *words, "--help"]).given(words)
     equal([line for line in output.splitlines() if len(line) > 100], [], "lines with over 100 columns in the help of", words)
     return output
 

@@ -57,9 +57,9 @@ class Kills:
         what, here = f"a run that is to be killed before its call {number}", self.here
         here.before = here.book.read_text()
         answer, count, call = ended(here, self.started, number)
-        equal((answer.status, answer.faults), (status, ""), what, answer.output, "its status and its faults")
+        printed = answer.given(what, answer.output, status=status)
         holds(here.book.exists(), what, "there is no book after it", answer)
-        found, printed = [*used(answer.output)], answer.output
+        found = [*used(printed)]
         for front in {printed, printed[:printed.rfind("\n") + 1]} if self.is_log else ():
             here.begins_clean(front)
         equal(sorted({*found} & self.passed), [], what, "counters that have passed before", printed)

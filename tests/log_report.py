@@ -281,9 +281,7 @@ def for_other_programs(folder: str) -> None:
     accounts = [Account(name, "SCRAM-SHA-256") for name in names]
     of_log, log = hostile_log(folder, accounts)
     Path(f"{log}.clients").write_text('2 open 2026-11-30T04:10:00Z rip=192.0.2.7 name="a, b"\n')
-    status, output, faults = report(folder, of_log, log, "--csv")
-    equal((status, faults), (0, ""), "the table")
-    found = [*csv.DictReader(io.StringIO(output))]
+    found = [*csv.DictReader(io.StringIO(report(folder, of_log, log, "--csv").given("the table")))]
     equal([it["account"] for it in found], names, "the accounts of the table")
     due = {"line": "13", "session": "2", "event": "accepted", "account": names[1], "acts_as": "", "mechanism": "SCRAM-SHA-256"}
     due |= {"reason": "", "opened": "2026-11-30T04:10:00Z", "client": 'rip=192.0.2.7 name="a, b"'}
@@ -334,11 +332,10 @@ class Page(html.parser.HTMLParser):
 def page_of(folder: str | Path, of_log: str | Path, log: str | Path, status: int = 0) -> Page:
     """The page of a log, which asks for nothing else and runs nothing but its own script."""
     file = Path(folder, "page.html")
-    answer = report(folder, of_log, log, "-o", file)
-    equal((answer.status, answer.faults), (status, ""), "a page")
+    output = report(folder, of_log, log, "-o", file).given("a page", status=status)
     text = file.read_text(encoding="utf-8")
     page = Page(text)
-    holds(page.texts["code"] == [answer.output.removesuffix("\n")], "the page does not have the audit's answer", answer.output)
+    holds(page.texts["code"] == [output.removesuffix("\n")], "the page does not have the audit's answer", output)
     equal(sorted({*page.tags} - TAGS), [], "the tags that no page has")
     equal(sorted({name for name, _ in page.attributes} - ATTRIBUTES), [], "the attributes that no page has")
     equal(re.findall(r"https?:|//|url\(|@import", text), [], "what leads out of the page")

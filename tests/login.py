@@ -27,9 +27,7 @@ class Login(suite.BookFolder):
 
     def log_of(self, words: list, text: str, status: int) -> str:
         """Runs a login, compares its status, checks that it reports no fault, and returns its log."""
-        answer = ran(words, text)
-        equal((answer.status, answer.faults), (status, ""), "the status and the faults of a login", answer.output.splitlines())
-        return answer.output
+        return ran(words, text).given("a login", status=status)
 
     def starts(self, *more: str) -> Running:
         """Starts RFC 5802's login, which prints its log up to the acceptance, and then waits for codes."""

@@ -47,8 +47,7 @@ def killed_before_any_call(folder: str) -> None:
     # A code of a pair has passed before, so a whole run ends with status 1.
     kill_before_any_call(here, started, RUNS, 1)
     here.socket.unlink(missing_ok=True)
-    status, log, faults = start_login(here, [code(here.token()["next"])]).end()
-    equal((status, faults), (0, ""), log)
+    log = start_login(here, [code(here.token()["next"])]).end().given()
     holds("\nS PASS " in log, "no code passes after the runs that were killed", log)
     here.has_only("book")
 
@@ -62,8 +61,7 @@ def left_sockets(folder: str) -> None:
     start_login(here, []).ends(3, "", "scramotp: socket fault\n")
     here.has_only("book", "socket")
     here.socket.unlink()
-    status, _, faults = start_login(here, []).end()
-    equal((status, faults), (0, ""), "once the socket is removed")
+    start_login(here, []).end().given("once the socket is removed")
     here.has_only("book")
 
 
@@ -77,7 +75,7 @@ def twenty_at_once(folder: str) -> None:
         replies = sorted(re.findall(r"^S (PASS|FAIL) ", answer.output, re.M) for answer in answers)
         equal(replies, [["FAIL"]] * 19 + [["PASS"]], f"turn {turn}: the replies of all logins", answers)
         for answer in answers:
-            equal((answer.status, answer.faults), (0 if "\nS PASS " in answer.output else 1, ""), f"turn {turn}", answer.output)
+            answer.given(f"turn {turn}", answer.output, status=0 if "\nS PASS " in answer.output else 1)
             holds(re.search(r"^S OK :v=", answer.output, re.M), f"turn {turn}: a log without a login", answer.output)
             holds(answer.output.endswith("\nC GONE\nE\n"), f"turn {turn}: a log without its end", answer.output)
         here.token_has(f"turn {turn}", next=1, failures=19)

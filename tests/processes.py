@@ -28,6 +28,11 @@ class Answer(NamedTuple):
     output: str
     faults: str
 
+    def given(self, *about: Any, status: int = 0, faults: str = "") -> str:
+        """The output of a run that has to end with this status and these faults."""
+        equal(self, (status, self.output, faults), *about)
+        return self.output
+
 
 # What `last` says, and the processes that `forget_runs` stops.
 _last: list[str] = []

@@ -25,7 +25,7 @@ from pathlib import Path
 import expected
 import suite
 from blocks import (
-    MECHANISMS, NAME, TOO_DEEP, TOOLS, Page, accounts_of, adds, book_of, changes, does, enrolled, enrols, filled, gives, has_keys_of, ran,
+    MECHANISMS, NAME, TOO_DEEP, TOOLS, Page, accounts_of, adds, book_of, changes, does, enrolled, enrols, filled, has_keys_of, ran,
     refused, replies, sets_password, stand_in, start, unchanged, with_tools,
 )
 from book_cases import cases
@@ -79,11 +79,10 @@ def sets(folder: str | Path, block: str, why: str = "") -> str:
     """Runs a block that sets a token, or that sets none and says why: then the book stays as it was. The token's text is removed. Returns
     what is printed."""
     before = book_of(folder)
-    answer = ran(folder, block)
-    equal(answer, (0, answer.output, f"no token is set: {why}\n" if why else ""), "a token that is set or not")
+    output = ran(folder, block).given("a token that is set or not", faults=f"no token is set: {why}\n" if why else "")
     equal(book_of(folder) == before, why != "", "whether the book is as it was", why)
     holds(not Path(folder, "token.toml").exists(), "the token's text is left", why)
-    return answer.output
+    return output
 
 
 def has_fob(folder: str | Path) -> None:
@@ -98,7 +97,7 @@ def has_no(folder: str, what: str, name: str) -> None:
 
 def lists(folder: str, block: str, *lines: str) -> None:
     """Runs a block that prints these lines, in any order."""
-    equal(sorted(gives(folder, block).splitlines()), sorted(lines), block)
+    equal(sorted(ran(folder, block).given(block).splitlines()), sorted(lines), block)
 
 
 def a_token(folder: str) -> None:
@@ -138,9 +137,8 @@ def a_fob_that_ran_ahead(folder: str) -> None:
     replies(folder, FOB, code(8), "FAIL 5")
     for trial, (due, status) in each([(r"PASS \d+ 9\n", 0), (r"FAIL \d+\n", 1)]):
         with trial:
-            answer = ran(folder, SYNC)
-            equal(answer, (status, answer.output, ""), "two codes in a row")
-            holds(re.fullmatch(due, answer.output), "another reply is due", due, answer.output)
+            output = ran(folder, SYNC).given("two codes in a row", status=status)
+            holds(re.fullmatch(due, output), "another reply is due", due, output)
     replies(folder, FOB, code(10), "PASS 5 10")
 
 
@@ -235,8 +233,7 @@ def one_mechanism(folder: str) -> None:
     for trial, (mechanism, status, answer) in each([("SCRAM-SHA-256", 0, r"S OK :v=.*"), ("SCRAM-SHA-1", 1, r"S NO :e=invalid-proof")]):
         with trial:
             login = f"scramotp login --book book.toml --name {NAME} --mechanism {mechanism} --socket socket"
-            ended, log, faults = ran(folder, login, "pencil\n")
-            equal((ended, faults), (status, ""), log)
+            log = ran(folder, login, "pencil\n").given(mechanism, status=status)
             holds(re.search(rf"^S CONT :r=.*,s=.{{24}},i=4096\nC RESP .*\n{answer}$", log, re.M), "another answer is due", answer, log)
     refused(folder, DROP_SHA1, unchanged(folder, "tools/drop-tables"))
 
@@ -460,10 +457,9 @@ def all_in_order(folder: str) -> None:
     printed = []
     for title, language, block in PAGE.all:
         if language == "sh" and block not in (SHELL, SERVE):
-            answer = ran(folder, LEAVES_NOTHING.format(block.replace(INSTALLED, str(TOOLS))), inputs.get(title, ""))
-            equal(answer, (0, answer.output, ""), title)
-            equal(re.findall("^left: (.*)", answer.output, re.M), [], "what a block leaves in the shell", title)
-            printed += answer.output.splitlines() if block != REPORT else []
+            output = ran(folder, LEAVES_NOTHING.format(block.replace(INSTALLED, str(TOOLS))), inputs.get(title, "")).given(title)
+            equal(re.findall("^left: (.*)", output, re.M), [], "what a block leaves in the shell", title)
+            printed += output.splitlines() if block != REPORT else []
     added, secret, ahead, freed, *told, of_postgresql, of_dovecot = printed
     equal((added, freed), (f"enrolled {NAME}", f"unlocked {FOB}"), printed)
     equal(set(told), {f"{NAME}: sha1 keys, sha256 keys", f"{FOB}: hotp token (next 10, 0 failures)"}, printed)
@@ -545,7 +541,7 @@ def who_got_in(folder: str) -> None:
     section leads through the page are on it."""
     Path(folder, "tools").symlink_to(TOOLS)
     with_incident(folder)
-    output, page = gives(folder, REPORT), Path(folder, "report.html")
+    output, page = ran(folder, REPORT).given(), Path(folder, "report.html")
     equal(output.splitlines()[-1], "clean sessions=23 accepted=5 codes=3", "the audit", output)
     holds(page.is_file(), "no page is written", output)
     equal(page.stat().st_mode & 0o777, 0o600, "the mode of the page")
