@@ -2,6 +2,7 @@
 Also questions about that book, changes of it, and a TOTP token and its codes for this moment."""
 import os
 import re
+import shlex
 import time
 from collections.abc import Callable
 from pathlib import Path
@@ -12,7 +13,7 @@ import processes
 from checks import equal, holds
 from expected import keys_of
 from processes import Answer, Running
-from suite import SECRET, TOP, program_on_path, read_book, totp
+from suite import SECRET, TOP, program_on_path, read_book, seen, totp
 
 TOOLS = TOP / "tools"
 # The user of the recipes, whose name has to be quoted in a book.
@@ -73,11 +74,11 @@ def does(folder: str | Path, block: str, text: str = "", printed: str = "", **mo
     equal(ran(folder, block, text, **more), (0, printed, ""), block)
 
 
-def refused(folder: str | Path, block: str, faults: str, text: str = "", status: int = 1) -> None:
-    """Runs a block that has to say this fault, and to leave the book as it is."""
-    before = Path(folder, "book.toml").read_bytes()
-    equal(ran(folder, block, text), (status, "", faults), block)
-    equal(Path(folder, "book.toml").read_bytes(), before, "the book after", block)
+def refused(folder: str | Path, block: str, faults: str, text: str = "", status: int = 1, **more: Any) -> None:
+    """Runs a block that has to say this fault, and to leave the book and its file as they are."""
+    before = seen(Path(folder, "book.toml"))
+    equal(ran(folder, block, text, **more), (status, "", faults), block)
+    equal(seen(Path(folder, "book.toml")), before, "the book after", block)
 
 
 def changes(folder: str | Path, block: str, change: Callable[[dict[str, Any]], Any]) -> None:
@@ -145,9 +146,14 @@ def accounts_of(folder: str | Path) -> dict[str, Any]:
     return book_of(folder)["accounts"]
 
 
+def told(folder: str | Path, what: str) -> str:
+    """What `edit-book` says of the book."""
+    return f"edit-book: {os.path.realpath(Path(folder, 'book.toml'))} {what}\n"
+
+
 def unchanged(folder: str | Path, failed: str) -> str:
     """What `edit-book` says if this command fails."""
-    return f"edit-book: {os.path.realpath(Path(folder, 'book.toml'))} is unchanged, because {failed} failed\n"
+    return told(folder, f"is unchanged, because {failed} failed")
 
 
 def token_of_now() -> str:
@@ -162,7 +168,7 @@ def code_of_now(steps: int = 0) -> str:
 
 def enrols(folder: str | Path, name: str, words: str = "") -> None:
     """Adds an account, whose password is `pencil`."""
-    does(folder, f"scramotp enrol --book book.toml --name {name} {words}", "pencil\n", f"enrolled {name}\n")
+    does(folder, f"scramotp enrol --book book.toml --name={shlex.quote(name)} {words}", "pencil\n", f"enrolled {name}\n")
 
 
 def enrolled(folder: str | Path) -> None:

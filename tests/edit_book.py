@@ -17,7 +17,7 @@ from concurrent.futures import ThreadPoolExecutor
 from pathlib import Path
 
 import suite
-from blocks import TOOLS, book_of, does, ran, stand_in, start, with_tools
+from blocks import TOOLS, book_of, does, ran, refused, stand_in, start, told, unchanged, with_tools
 from checks import equal, holds
 from processes import LIMIT_OF_LINES, Running, Terminal, sleeps, until, whole
 from suite import (
@@ -55,10 +55,8 @@ def an_edit_that_fails(folder: str) -> None:
     holds(found, "the faults of an edit whose text is no book", faults)
     equal(Path(found[1]).read_text(), BOOK_OF_USER.replace("format", "former"), "the text that the fault names")
     os.remove(found[1])
-    found = ran(folder, "tools/edit-book book.toml false")
-    equal(found, (1, "", f"edit-book: {real} is unchanged, because false failed\n"), "an edit by a command that fails")
-    found = ran(folder, "tools/edit-book book.toml", EDITOR="false")
-    equal(found, (1, "", f"edit-book: {real} is unchanged, because the editor failed\n"), "an edit by an editor that fails")
+    refused(folder, "tools/edit-book book.toml false", unchanged(folder, "false"))
+    refused(folder, "tools/edit-book book.toml", unchanged(folder, "the editor"), EDITOR="false")
     equal(book.read_text(), BOOK_OF_USER, "the book after edits that fail")
     equal(set(os.listdir(folder)), {"bin", "book.toml", "tools"}, "the files in the folder after edits that fail")
 
@@ -80,10 +78,9 @@ def an_edit_that_cannot_be_saved(folder: str) -> None:
             what, refusal = f"{command} fails if {fails}", "echo refused >&2; " if command == "chgrp" else ""
             book.write_text(BOOK_OF_USER)
             failing = stand_in(folder, command, f'{fails} || exec {shutil.which(command)} "$@"\n{refusal}exit 1')
-            said = f"edit-book: {os.path.realpath(book)} {fault}\n" if fault else ""
             answer = ran(folder, "tools/edit-book book.toml sed s/4096/4097/")
             failing.unlink()
-            equal(answer, (int(fault != ""), "", said), what)
+            equal(answer, (int(fault != ""), "", told(folder, fault) if fault else ""), what)
             equal(book.read_text(), text, what)
             equal(set(os.listdir(folder)), {"bin", "book.toml", "tools"}, what)
 
@@ -97,27 +94,21 @@ def an_edit_of_anothers_book(folder: str) -> None:
         # A file of root's, through a link
         book.unlink()
         book.symlink_to("/etc/passwd")
-    before = seen(book)
-    belongs = f"edit-book: {os.path.realpath(book)} belongs to another user: run edit-book as the book's owner\n"
+    belongs = told(folder, "belongs to another user: run edit-book as the book's owner")
     for trial, edit in each(["tools/edit-book book.toml sed s/4096/4097/", "EDITOR=false tools/edit-book book.toml"]):
         with trial:
-            found = ran(folder, edit)
-            equal(found, (1, "", belongs), edit)
-            equal(seen(book), before, edit)
+            refused(folder, edit, belongs)
     if is_root():
         os.chown(book, 0, 0)
         os.chown(folder, nobody().pw_uid, nobody().pw_gid)
-        before = seen(book)
-        found = ran(folder, "tools/edit-book book.toml sed s/4096/4097/")
-        equal(found, (1, "", f"edit-book: {os.path.realpath(book)} is in a folder of another user\n"), "an edit in another user's folder")
-        equal(seen(book), before, "the book in another user's folder")
+        refused(folder, "tools/edit-book book.toml sed s/4096/4097/", told(folder, "is in a folder of another user"))
     equal(set(os.listdir(folder)), {"bin", "book.toml", "tools"}, "the files in the folder")
 
 
 def an_edit_in_a_folder_of_others(folder: str) -> None:
     """A folder that its group or all users can write is refused, unless it has the sticky bit. The book stays as it was."""
     book = with_tools(folder, BOOK_OF_USER)
-    fault = f"edit-book: {os.path.realpath(book)} is in a folder that others can write\n"
+    fault = told(folder, "is in a folder that others can write")
     for trial, (mode, is_refused) in each([(0o720, True), (0o702, True), (0o1777, False), (0o755, False)]):
         with trial:
             os.chmod(folder, mode)
@@ -131,27 +122,29 @@ def a_book_of_two_names(folder: str) -> None:
     """A book with two names is refused, and stays as it was: after an edit it would be two books, and a code would pass once in each."""
     book = with_tools(folder, BOOK_OF_USER)
     os.link(book, Path(folder, "other"))
-    before = seen(book)
-    fault = f"edit-book: {os.path.realpath(book)} has a second name, a hard link: remove one\n"
-    equal(ran(folder, "tools/edit-book book.toml cat"), (1, "", fault), "an edit of a book of two names")
-    equal((seen(book), seen(Path(folder, "other"))), (before, before), "both names")
+    refused(folder, "tools/edit-book book.toml cat", told(folder, "has a second name, a hard link: remove one"))
+    equal(seen(Path(folder, "other")), seen(book), "both names")
 
 
 def an_edit_that_cannot_lock(folder: str) -> None:
     """A lock that can't be taken at all is not told as a book in use. Nor is a book that its owner may not read: as root, nobody's here."""
     book = with_tools(folder, BOOK_OF_USER)
-    real = os.path.realpath(book)
     missing = stand_in(folder, "flock", "exit 127")
-    found = ran(folder, "tools/edit-book book.toml cat")
-    equal(found, (1, "", f"edit-book: {real} is unchanged, because it could not be locked\n"), "an edit without flock")
+    refused(folder, "tools/edit-book book.toml cat", told(folder, "is unchanged, because it could not be locked"))
     missing.unlink()
+    of_nobody(folder, 0)
+    found = ran(folder, f"{'runuser -u nobody -- ' * ROOT}./edit-book book.toml cat")
+    equal(found, (1, "", told(folder, "cannot be read")), "an edit of a book that can't be read")
+
+
+def of_nobody(folder: str, mode: int) -> None:
+    """Puts the tool into a folder, and gives the book this mode. As root, both are nobody's then."""
     shutil.copy(TOOLS / "edit-book", folder)
+    book = Path(folder, "book.toml")
     if ROOT:
         for path in folder, book:
             os.chown(path, nobody().pw_uid, nobody().pw_gid)
-    book.chmod(0)
-    found = ran(folder, f"{'runuser -u nobody -- ' * ROOT}./edit-book book.toml cat")
-    equal(found, (1, "", f"edit-book: {real} cannot be read\n"), "an edit of a book that can't be read")
+    book.chmod(mode)
 
 
 def a_process_that_an_edit_leaves(folder: str) -> None:
@@ -163,8 +156,7 @@ def a_process_that_an_edit_leaves(folder: str) -> None:
             answer = ran(folder, f"tools/edit-book book.toml{command}", EDITOR=editor)
             is_kept = is_locked(book)
             os.kill(int(Path(folder, "left").read_text()), signal.SIGKILL)
-            fault = f"edit-book: {os.path.realpath(book)} is unchanged, because {what} failed\n"
-            equal(answer, (1, "", fault), "an edit that leaves a process")
+            equal(answer, (1, "", unchanged(folder, what)), "an edit that leaves a process")
             holds(not is_kept, "a process that this has left keeps the lock", what)
 
 
@@ -182,7 +174,7 @@ def an_edit_that_is_stopped(folder: str) -> None:
 def an_editor_at_an_interrupt(folder: str) -> None:
     """Ctrl-C reaches the edit and its editor. If the editor goes on, what it then saves is kept. If it ends, the book stays as it was."""
     book, editor, waits = with_tools(folder, BOOK_OF_USER), Path(folder, "editor"), Path(folder, "waits")
-    ended = f"edit-book: {os.path.realpath(book)} is unchanged, because the editor failed\n"
+    ended = unchanged(folder, "the editor")
     goes_on = "trap 'caught=1' INT; touch waits; until [ $caught ]; do sleep 0.1; done; sed -i s/4096/4097/ $1"
     for trial, (what, status, faults, text) in each([
         ("touch waits; exec sleep 130", 1, ended, BOOK_OF_USER),
@@ -201,12 +193,8 @@ def an_editor_at_an_interrupt(folder: str) -> None:
 
 def a_book_that_may_not_be_written(folder: str) -> None:
     """A book whose owner may not write it is edited all the same, and without a question at a terminal. As root, it is nobody's here."""
-    book = with_tools(folder, BOOK_OF_USER)
-    shutil.copy(TOOLS / "edit-book", folder)
-    if ROOT:
-        for path in folder, book:
-            os.chown(path, nobody().pw_uid, nobody().pw_gid)
-    book.chmod(0o400)
+    with_tools(folder, BOOK_OF_USER)
+    of_nobody(folder, 0o400)
     with Terminal() as terminal:
         words = ["./edit-book", "book.toml", "sed", "s/4096/4097/"]
         edit = Running(words, cwd=folder, env=program_on_path(folder), stdin=terminal.end, **as_nobody())
@@ -286,11 +274,9 @@ def an_edit_gives_up(folder: str) -> None:
     with open(book, "rb") as file:
         fcntl.flock(file, fcntl.LOCK_EX)
         began = time.monotonic()
-        found = ran(folder, "tools/edit-book book.toml sed s/4096/4097/")
+        refused(folder, "tools/edit-book book.toml sed s/4096/4097/", told(folder, "is in use"))
         waited = time.monotonic() - began
-    equal(found, (1, "", f"edit-book: {os.path.realpath(book)} is in use\n"), "an edit of a book that is held")
     holds(29 < waited < 30 + LIMIT_OF_LINES, "the edit gives up after seconds", waited)
-    equal(book.read_text(), BOOK_OF_USER, "the book after an edit that gave up")
 
 
 suite.run_all()

@@ -6,7 +6,6 @@ What a tool leaves of a book, prints and ends with is compared. Takes the 30 sec
 """
 import fcntl
 import itertools
-import os
 import re
 import shlex
 import signal
@@ -14,7 +13,7 @@ from pathlib import Path
 
 import suite
 from blocks import (
-    NAME, TOO_DEEP, book_of, code_of_now, does, enrolled, has_keys_of, ran, start, token_of_now, with_tools, without_keys,
+    NAME, TOO_DEEP, accounts_of, code_of_now, does, enrolled, enrols, ran, sets_password, start, token_of_now, unchanged, with_tools,
 )
 from checks import equal, holds
 from processes import until
@@ -30,15 +29,12 @@ def a_password_of_any_name(folder: str) -> None:
         Path(folder, letter).touch()
     names = ["a b", "*", "-x", 'a"b\\c', "sha1", "sha256", "a.sha1", 'it\'s "odd"']
     for name in names:
-        does(folder, f"scramotp enrol --book book.toml --name={shlex.quote(name)} --count 2", "pencil\n", f"enrolled {name}\n")
+        enrols(folder, name, "--count 2")
     does(folder, "tools/edit-book book.toml sed 's/^act_as = \\[]/act_as = [\"root\"]/'")
     for trial, name in each(names):
         with trial:
-            before = without_keys(book_of(folder), name)
-            equal(before["accounts"][name]["act_as"], ["root"], name, "the names to act as")
-            does(folder, f"./link book.toml {shlex.quote(name)} --count 3", f"new {name}\n")
-            has_keys_of(book_of(folder)["accounts"][name], f"new {name}".encode(), 3)
-            equal(without_keys(book_of(folder), name), before, name, "what else the book states")
+            equal(accounts_of(folder)[name]["act_as"], ["root"], name, "the names to act as")
+            sets_password(folder, f"./link book.toml {shlex.quote(name)} --count 3", name, f"new {name}", 3)
 
 
 def headers_of_another_form(folder: str) -> None:
@@ -62,8 +58,7 @@ def an_account_removed_meanwhile(folder: str) -> None:
     change = start(folder, f"exec tools/set-password book.toml {NAME}", TMPDIR=str(left))
     until(lambda: list(left.iterdir()), "the tool should wait for the password")
     book = with_tools(folder, BOOK_OF_USER)
-    unchanged = f"edit-book: {os.path.realpath(book)} is unchanged, because sh failed\n"
-    change.ends(1, "", f"scramotp: no such account\n{unchanged}", text="another one\n")
+    change.ends(1, "", f"scramotp: no such account\n{unchanged(folder, 'sh')}", text="another one\n")
     equal(book.read_text(), BOOK_OF_USER, "the book")
     equal(list(left.iterdir()), [], "the files that are left")
 
@@ -126,7 +121,7 @@ def a_code_in_a_script(folder: str) -> None:
     for trial, text in each(["", "\n", "\r\n", " \n"]):
         with trial:
             judges(text, 1, f"to {text!r}")
-    token = book_of(folder)["accounts"]["user"]["token"]
+    token = accounts_of(folder)["user"]["token"]
     equal((token["next"], token["failures"]), (0, 0), "the next counter and the failures after blank lines")
     for trial, (text, status) in each([(CODES[0] + "\r\n", 0), (CODES[1][:3] + " " + CODES[1][3:], 0), (CODES[1], 1), (CODES[2], 0)]):
         with trial:
