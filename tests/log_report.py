@@ -27,7 +27,7 @@ import suite
 from audit_cases import TABLE
 from checks import equal, holds
 from clients import Account, book, dealt, escaped, gone, logged_in
-from expected import AUDITS, DATA, MECHS, base64_of, decoy_salt, edited_texts, numbered
+from expected import AUDITS, MECHS, base64_of, decoy_salt, edited_texts, numbered
 from picture import INCIDENT, TOOL
 from processes import Answer, ran
 from suite import PROGRAM, SEEDS, TOP, code, each, has, hotp, program_on_path, totp

@@ -10,13 +10,11 @@ import os
 from collections.abc import Iterator
 from pathlib import Path
 
-import needs
 import suite
 from blocks import TOOLS, Page
 from checks import equal, holds
 from clients import Account, book
 from expected import code
-from mail_servers import free_port, listens
 from processes import Answer, Running, ran, until
 from suite import CODES, TOP, audit_says, each, has, hotp, program_on_path
 
