@@ -386,6 +386,23 @@ def an_alarm(folder: str) -> None:
     holds(second.exists(), "there is no second log")
 
 
+def an_audit_that_is_not_run(folder: str) -> None:
+    """If there is no program that could audit a log, the journal and the operator's program are told why."""
+    alarm = Path(folder, "alarm")
+    alarm.write_text(f'#!/bin/sh\necho "$2" >{folder}/alarms\n')
+    alarm.chmod(0o755)
+
+    async def one(host: Host) -> None:
+        await logs_in(host)
+        os.environ["PATH"] = folder
+
+    path = os.environ["PATH"]
+    notes = serves(folder, one, alarm=str(alarm))
+    os.environ["PATH"] = path
+    due = "[Errno 2] No such file or directory: 'scramotp'"
+    equal((notes, Path(folder, "alarms").read_text()), ([due], f"{due}\n"), "what is told")
+
+
 async def ctl(folder: str, *words: str, text: str = "") -> tuple[int | None, str]:
     """Runs `scramotp-host ctl`, and returns its status and what it prints."""
     command = [TOP / "hosts" / "scramotp-host", "ctl", "--socket", f"{folder}/control", *words]

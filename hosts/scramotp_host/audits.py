@@ -5,6 +5,16 @@ from asyncio.subprocess import DEVNULL, PIPE, STDOUT
 from scramotp_host import journal
 
 
+async def answer_of(*words: str) -> tuple[int | None, str]:
+    """The status of a command and what it prints; no status and why, if it can't be run."""
+    try:
+        run = await asyncio.create_subprocess_exec(*words, stdin=DEVNULL, stdout=PIPE, stderr=STDOUT, start_new_session=True)
+    except OSError as fault:
+        return None, str(fault)
+    printed, _ = await run.communicate()
+    return run.returncode, printed.decode(errors="replace").strip()
+
+
 class Audits:
     """Audits each log by the copy of its book. `alarm` names a program to run, with the log and the answer as its words, after an answer
     other than clean."""
@@ -20,11 +30,8 @@ class Audits:
 
     async def audit(self, log: str) -> None:
         async with self.one:
-            words = ["scramotp", "audit", "--book", log + ".toml", "--log", log]
-            run = await asyncio.create_subprocess_exec(*words, stdin=DEVNULL, stdout=PIPE, stderr=STDOUT, start_new_session=True)
-            printed, _ = await run.communicate()
-        answer = printed.decode(errors="replace").strip()
-        is_clean = run.returncode == 0 and answer.startswith("clean ")
+            status, answer = await answer_of("scramotp", "audit", "--book", log + ".toml", "--log", log)
+        is_clean = status == 0 and answer.startswith("clean ")
         journal.note("audit", level=None if is_clean else "error", log=log, answer=answer)
         if not is_clean and self.alarm:
             await self.warn(log, answer)
