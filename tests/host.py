@@ -6,9 +6,11 @@ log is clean, and LOG.clients has the client of each session. Logins that are id
 heard, and the operator's program is told of a log that is not clean. If the hall is killed, or can't save, the host says so.
 """
 import asyncio
+import errno
 import fcntl
 import os
 import re
+import resource
 import signal
 import stat
 import subprocess
@@ -471,6 +473,27 @@ def faults_of_a_hall(folder: str) -> None:
             place = Path(folder, does.__name__)
             place.mkdir()
             serves(str(place), does)
+
+
+def a_book_that_is_not_copied(folder: str) -> None:
+    """A hall whose book can't be copied whole, since the disk is full but for a part of it, does not begin, and leaves no file."""
+    os.environ["PATH"] = program_on_path(folder)["PATH"]
+    text = book([USER])
+    path = Path(folder, "book.toml")
+    path.write_text(text)
+    path.chmod(0o600)
+    begun = hall.Hall(str(path), f"{folder}/log")
+    holds(begun.is_ready(limit(20)), "the hall does not begin")
+    limits = resource.getrlimit(resource.RLIMIT_FSIZE)
+    resource.setrlimit(resource.RLIMIT_FSIZE, (len(text) - 1, limits[1]))
+    try:
+        begun.begin()
+        holds(False, "the hall begins", Path(f"{folder}/log.toml").stat().st_size, len(text))
+    except OSError as fault:
+        equal(fault.errno, errno.EFBIG, "the fault")
+    finally:
+        resource.setrlimit(resource.RLIMIT_FSIZE, limits)
+    equal([it for it in ("log", "log.toml") if Path(folder, it).exists()], [], "the files that are left")
 
 
 def a_book_that_is_held(folder: str) -> None:

@@ -10,7 +10,7 @@ import shutil
 import subprocess
 import time
 from base64 import b64encode
-from io import FileIO
+from io import BufferedWriter, FileIO
 from typing import IO, NamedTuple, NoReturn, cast
 
 AT_ONCE = 1 << 16  # bytes that are read
@@ -73,8 +73,8 @@ class Hall:
         be no copy; no file is left then."""
         try:
             self.keep([self.printed.readline().rstrip(b"\n") or fail("the hall did not start")])
-            with open(self.book, "rb") as begun, self.copy:
-                shutil.copyfileobj(begun, self.copy)
+            with open(self.book, "rb") as begun, BufferedWriter(self.copy) as copy:  # which writes all, or fails
+                shutil.copyfileobj(begun, copy)
         except BaseException:
             self.discard()
             raise
