@@ -32,6 +32,7 @@ from scramotp_host.hall import HallFault
 from scramotp_host.host import Host
 from scramotp_host.limits import Limits, PerMinute, origin
 from scramotp_host.login import Login, LoginLimited, LoginLost, Names, names_in
+from scramotp_host.sockets import listening
 
 USER = Account("user", "SCRAM-SHA-256")
 HOME = {"rip": "192.0.2.7", "service": "smtp"}
@@ -514,6 +515,18 @@ def a_book_that_is_held(folder: str) -> None:
 
     serves(folder, holds_it)
     equal(audits(folder), [(0, 0), (1, 1)], "the audits")
+
+
+def a_file_that_is_no_socket(folder: str) -> None:
+    """A file that is no socket is not taken for one that a killed host has left: it stays as it is, and its host does not begin."""
+    file = Path(folder, "file")
+    file.write_text("mine")
+    try:
+        with listening(str(file), 0o600):
+            holds(False, "a host listens at a file that is no socket", [*Path(folder).iterdir()])
+    except FileExistsError:
+        pass
+    equal(file.read_text(), "mine", "the file")
 
 
 suite.run_all()

@@ -4,6 +4,7 @@ import errno
 import os
 import shutil
 import socket
+import stat
 import struct
 from collections.abc import Iterator
 
@@ -23,20 +24,18 @@ def handed() -> dict[str, socket.socket]:
 
 
 def is_left(path: str) -> bool:
-    """Whether nobody listens at a socket any more, as after a run that was killed."""
-    with socket.socket(socket.AF_UNIX) as client:
+    """Whether there is a socket at which nobody listens any more, as after a run that was killed."""
+    with contextlib.suppress(OSError), socket.socket(socket.AF_UNIX) as client:
         try:
             client.connect(path)
-        except ConnectionRefusedError:
-            return True
-        except OSError:
-            return False
+        except ConnectionRefusedError:  # which is said of a file that is no socket, too
+            return stat.S_ISSOCK(os.lstat(path).st_mode)
     return False
 
 
 @contextlib.contextmanager
 def listening(path: str, mode: int, group: str | None = None) -> Iterator[socket.socket]:
-    """A Unix socket that listens, with this mode and group, at a path where nobody else does. A file that a killed run has left there is
+    """A Unix socket that listens, with this mode and group, at a path where nobody else does. A socket that a killed run has left there is
     replaced. The file is removed at the end of the context. If the service manager has made a socket with this path, it is that one."""
     if found := handed().get(path):
         with found:
