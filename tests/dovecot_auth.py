@@ -258,6 +258,13 @@ def who_has_logged_in(folder: str) -> None:
                 equal(lines.readline().decode(), due, "the answer for", process, ident)
             imap.sendall(b"x" * 9000)
             equal(lines.read(), b"", "what follows a line that is too long")
+        with socket.socket(socket.AF_UNIX) as deaf:
+            deaf.connect(f"{folder}/master")
+            deaf.settimeout(20)
+            with contextlib.suppress(BrokenPipeError, ConnectionResetError):
+                for _ in range(200):
+                    deaf.sendall(b"REQUEST\t5\t\t\t\n" * 5000)
+                holds(False, "a process that reads no answer is not cut off")
 
 
 def many_at_once(folder: str) -> None:

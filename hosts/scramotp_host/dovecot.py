@@ -26,10 +26,9 @@ from scramotp_host.hall import HallFault
 from scramotp_host.host import Host
 from scramotp_host.login import MECHANISMS, Answer, Login, LoginLimited, LoginLost, Names
 from scramotp_host.master import Accepted
-from scramotp_host.sockets import credentials
+from scramotp_host.sockets import MOST_UNREAD, credentials
 
 LONGEST_LINE = 16384  # bytes; Postfix limits a message to 12288
-MOST_UNREAD = 1 << 20  # bytes that are kept for a server that does not read
 PASSWORDS = ("PLAIN", "LOGIN")
 # What of the parameters of AUTH is kept of a client, and how it is called then; `session` is Dovecot's own name of the client's connection.
 # What was `service` is `protocol` in Dovecot 2.4.

@@ -12,6 +12,8 @@ import time
 from collections.abc import AsyncIterator
 from typing import cast
 
+from scramotp_host.sockets import MOST_UNREAD
+
 LONGEST_LINE = 8192
 KEPT = 60  # seconds that a login waits to be asked for
 
@@ -58,7 +60,7 @@ class Master(asyncio.Protocol):
             match line.split(b"\t"):
                 case [b"REQUEST", ident, process, login, cookie, *_]:
                     self.transport.write(self.answer(ident, self.accepted.take(process, login, cookie)))
-        if len(self.text) > LONGEST_LINE:
+        if len(self.text) > LONGEST_LINE or self.transport.get_write_buffer_size() > MOST_UNREAD:
             self.transport.abort()
 
     def answer(self, ident: bytes, user: str | None) -> bytes:

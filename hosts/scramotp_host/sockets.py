@@ -8,6 +8,8 @@ import stat
 import struct
 from collections.abc import Iterator
 
+MOST_UNREAD = 1 << 20  # bytes that are kept for a peer that does not read
+
 
 def remove(path: str, made: os.stat_result) -> None:
     """Removes the file of a socket, unless it is gone or another file has its name."""
