@@ -353,7 +353,8 @@ def limited_addresses(folder: str) -> None:
     count.add("x", 2)
     count.minute -= 1
     equal((count.is_over("x"), count.counts), (False, {}), "the next minute")
-    equal([origin({"rip": "::1"}), origin({"uid": 5, "pid": 6})], ["::/64", "uid 5"], "by what a client is counted")
+    clients = [{"rip": "::1"}, {"rip": "::ffff:192.0.2.7"}, {"rip": "", "uid": 5, "pid": 6}, {"uid": 5, "pid": 6}]
+    equal([*map(origin, clients)], ["::/64", "192.0.2.7", "uid 5", "uid 5"], "by what a client is counted")
 
 
 async def is_limited(host: Host, client: dict[str, object]) -> None:
