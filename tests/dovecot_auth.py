@@ -176,7 +176,8 @@ def outcomes(folder: str) -> None:
     told = [*["accepted"] * 2, *["refused"] * 2, *["accepted"] * 3, *["refused"] * 5, "abandoned", *["refused"] * 2, "abandoned"]
     equal(door.outcomes(), told, "the outcomes in the journal")
     holds(max(map(len, door.notes("login"))) < 400, "a line of the journal is long", door.notes("login"))
-    holds(' service=imap client="x y"' in door.notes("login")[13], "the journal lacks the client's connection", door.notes("login")[13])
+    due = f' service=imap client="x y" uid={os.geteuid()} pid={os.getpid()}'
+    holds(door.notes("login")[13].endswith(due), "the journal lacks the client's connection", door.notes("login")[13])
     due = r"event=login outcome=accepted mechanism=SCRAM-SHA-256 name=user act_as=other log=\S+Z\.log session=7 service=smtp rip=.*"
     holds(any(re.fullmatch(due, line) for line in door.notes("login")), "the journal lacks the line of a login", door.notes("login"))
 

@@ -54,7 +54,9 @@ class Request:
         self.connection, self.host, self.ident, self.mechanism = connection, connection.door.host, ident, mechanism
         self.settings, self.user = settings, ""
         self.login: Login | None = None
-        self.client: Client = {name: settings[key][:LONGEST_KEPT] for key, name in KEPT.items() if key in settings} or connection.client
+        self.client: Client = {name: settings[key][:LONGEST_KEPT] for key, name in KEPT.items() if key in settings}
+        if not self.client.get("rip"):
+            self.client |= connection.client
         self.is_over = False
         self.next_step: Callable[[bytes], None] | None = None  # what the response is for that is due
         self.later: asyncio.Task[None] | asyncio.TimerHandle | None = None  # what is done later, unless the login is given up
