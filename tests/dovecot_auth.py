@@ -355,6 +355,22 @@ def limits(folder: str) -> None:
             server.close()
 
 
+def many_files(folder: str) -> None:
+    """A door that could have only a few files open, unless it asks for more, serves many connections, and begins a new log meanwhile."""
+    few, most = 32, resource.getrlimit(resource.RLIMIT_NOFILE)
+    resource.setrlimit(resource.RLIMIT_NOFILE, (few, most[1]))
+    try:
+        door = Door(folder, BOOK)
+    finally:
+        resource.setrlimit(resource.RLIMIT_NOFILE, most)
+    with contextlib.ExitStack() as servers:
+        many = [servers.enter_context(Server(door)) for _ in range(2 * few)]
+        door.run.process.send_signal(signal.SIGHUP)
+        until(lambda: len([*door.logs.glob("*.log")]) == 2, "a new log should begin")
+        equal(many[-1].logs_in(1, USER), OK.format(1), "a login")
+    door.ends(1)
+
+
 def halls_that_fail(folder: str) -> None:
     """If the hall is killed, or the log can't be written, no login is accepted any more: the connections are closed, and the door ends and
     says why. The log is then the beginning of a clean one."""

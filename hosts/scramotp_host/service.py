@@ -59,6 +59,12 @@ async def renew_daily(host: Host, moment: time) -> None:
         host.renew()
 
 
+def have_many_files() -> None:
+    """Lets this process have as many files open as it may: each connection is one, and a new log takes some."""
+    _, most = resource.getrlimit(resource.RLIMIT_NOFILE)
+    resource.setrlimit(resource.RLIMIT_NOFILE, (most, most))
+
+
 async def serve(given: argparse.Namespace, opens: Opens) -> None:
     """Serves until INT or TERM. HUP begins a new log. HallFault or OSError if the host can't go on."""
     loop, main = asyncio.get_running_loop(), asyncio.current_task()
@@ -86,6 +92,7 @@ async def serve(given: argparse.Namespace, opens: Opens) -> None:
 
 def run(given: argparse.Namespace, opens: Opens) -> int:
     """Serves, and returns the exit status: 0 after INT and TERM, and 1 after a fault, which the journal has."""
+    have_many_files()
     try:
         asyncio.run(serve(given, opens))
     except asyncio.CancelledError:
