@@ -116,6 +116,20 @@ def logins_over_changes(folder: str) -> None:
     holds(max(sessions for sessions, _ in found) <= (500 + 2 * 64) // 7 + 64 + 1, "a log has much more than its limit", found)
 
 
+def logs_of_few_bytes(folder: str) -> None:
+    """A new log begins before the hall has been given more events than it takes, here a thousand bytes."""
+    async def some(host: Host) -> None:
+        for _ in range(20):
+            equal(await logs_in(host), "OK", "the answer")
+
+    most, hall.MOST_BYTES = hall.MOST_BYTES, 1000
+    serves(folder, some)
+    hall.MOST_BYTES = most
+    found = audits(folder)
+    # The events of a login have 200 to 300 bytes, and the log changes after the login in which the limit is reached.
+    holds(4 <= len(found) <= 7 and sum(accepted for _, accepted in found) == 20, "another number of logs", found)
+
+
 def files_of_a_log(folder: str) -> None:
     """Only the owner can read the log, the copy of its book and the file of its clients, whatever the umask is. A client is named by what
     is known of it, in quotes if it has to be."""
