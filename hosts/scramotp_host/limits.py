@@ -56,7 +56,8 @@ def origin(client: Client) -> str:
 
 @functools.lru_cache(10_000)
 def counted(address: str) -> str:
-    """By what an address is counted: itself, or of IPv6 its first 64 bits, since one client has all that begin so."""
+    """By what an address is counted: itself, or of IPv6 its first 64 bits, since one client has all that begin so, unless it has an address
+    of IPv4 in it."""
     try:
         found = ipaddress.ip_address(address)
     except ValueError:
