@@ -13,6 +13,7 @@ import resource
 import signal
 import socket
 import stat
+import sys
 import time
 from base64 import b64decode, b64encode
 from concurrent.futures import ThreadPoolExecutor
@@ -353,6 +354,23 @@ def limits(folder: str) -> None:
         holds(servers[0].is_cut_off(), "a connection has three logins")
         for server in servers:
             server.close()
+
+
+def no_journal(folder: str) -> None:
+    """A door whose standard error is closed serves, and ends well."""
+    place = Path(folder)
+    (place / "logs").mkdir(0o700)
+    (place / "book.toml").write_text(BOOK)
+    (place / "book.toml").chmod(0o600)
+    words = [sys.executable, TOP / "hosts/serve-dovecot-auth", place / "book.toml", place / "auth", place / "logs"]
+    run = Running(["bash", "-c", 'exec "$@" 2>&-', "bash", *map(str, words)], env=program_on_path(folder))
+    until(lambda: (place / "auth").exists() or run.process.poll() is not None, "the door should serve")
+    with Server(place / "auth") as server:
+        equal(server.logs_in(1, USER), OK.format(1), "a login")
+    run.process.send_signal(signal.SIGTERM)
+    equal(run.end().status, 0, "the status of the door")
+    [log] = (place / "logs").glob("*.log")
+    suite.audit_says(f"{log}.toml", log, "clean sessions=1 accepted=1 codes=0")
 
 
 def many_files(folder: str) -> None:

@@ -38,6 +38,7 @@ def write() -> None:
     """Writes the lines that there are, unless standard error is closed."""
     text = "".join(lines)
     lines.clear()
-    with contextlib.suppress(OSError, ValueError):
-        sys.stderr.write(text)
-        sys.stderr.flush()
+    if sys.stderr:  # there is none, if it was closed from the start
+        with contextlib.suppress(OSError, ValueError):
+            sys.stderr.write(text)
+            sys.stderr.flush()
