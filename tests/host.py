@@ -271,7 +271,7 @@ def logins_that_are_lost_at_once(folder: str) -> None:
         equal([login.number for login in host.logins], [], "the logins that are left")
         equal(await logs_in(host), "OK", "a login after that")
 
-    serves(folder, many, places=1, idle=0)
+    serves(folder, many, places=1, idle=0, guesses=1000)
     [(sessions, accepted)] = audits(folder)
     holds(sessions == 401 > accepted, "no login was lost", sessions, accepted)
 
@@ -326,6 +326,18 @@ def idle_logins(folder: str) -> None:
 
     serves(folder, many, places=8, idle=0.5)
     equal((sorted(lost), audits(folder)), ([0, 1, 2, 3, 4, 6, 7], [(14, 3)]), "which logins were lost at the end, and the audit")
+
+
+def idle_logins_of_one_address(folder: str) -> None:
+    """An address whose logins give way too often in a minute is not heard, so that it can't keep others waiting."""
+    async def many(host: Host) -> None:
+        for _ in range(4):
+            await host.login(HOME)
+        await is_limited(host, HOME)
+        equal(await says(await host.login({"rip": "198.51.100.1"}), USER), "OK", "a login of another address")
+
+    serves(folder, many, places=1, idle=0, guesses=3)
+    equal(audits(folder), [(5, 1)], "the audit")
 
 
 def idle_over_a_change(folder: str) -> None:

@@ -123,12 +123,13 @@ class Host:
         oldest = next((it for it in self.logins if it.is_open and not it.is_busy), None)
         left = self.limits.idle + (oldest.seen - time.monotonic() if oldest else 0)
         if oldest and left <= 0:
+            self.guesses.add(oldest.origin)  # else one address could keep all others waiting, without a guess
             oldest.give_way()
         else:
             await self.change(left)
 
     def check(self, client: Client) -> None:
-        """LoginLimited if the client's address has failed or sent too much in this minute."""
+        """LoginLimited if the client's address has failed, given way or sent too much in this minute."""
         if self.guesses.is_over(origin(client)) or self.sent.is_over(origin(client)):
             raise LoginLimited
 

@@ -30,7 +30,7 @@ class Limits:
     grace: float = limit(10.0, "seconds that a new log waits for the logins that are open")
     patience: float = limit(150.0, "seconds that a login may take in all")
     delay: float = limit(2.0, "seconds before a client is told that it is refused")
-    guesses: int = limit(60, "refused logins of an address in a minute; then its logins are refused unheard")
+    guesses: int = limit(60, "logins of an address in a minute that are refused or give way; then its logins are refused unheard")
     kilobytes: int = limit(1024, "kilobytes of messages of an address in a minute; then the same")
     connections: int = limit(1024, "connections of one user of this machine")
     logins: int = limit(1024, "open logins of one connection")
