@@ -7,6 +7,7 @@ others. The journal of the door has to say the same as the client. `needs.py --i
 can't be installed beside Postfix, it unpacks. What is missing is not tested, and said.
 """
 import contextlib
+import imaplib
 import os
 import re
 import smtplib
@@ -406,6 +407,60 @@ def logins_at_dovecot(folder: str) -> None:
         holds((homes / NAME / "mail").is_dir(), "the mailbox is not where it should be", [*homes.rglob("*")])
 
 
+def imap_answers(folder: str) -> None:
+    """What Dovecot tells a client of a wrong password, and, as long as the door has no verdict, of one that is right: that it should try
+    again later (RFC 5530), also if the hall is killed or the door is ended in the middle of a login."""
+    if not has("Dovecot's answers", "dovecot", "/usr/lib/dovecot/imap-login", "openssl"):
+        return
+    wrong, later = "[AUTHENTICATIONFAILED] ", "[UNAVAILABLE] "
+    with door_and_dovecot(folder, "limited") as (door, port):
+        for password, due in ("x", wrong), ("x", wrong), (PASSWORD, later):
+            answer = told_by_imap(door, port, "PLAIN", [f"\0{NAME}\0{password}"])
+            holds(answer.startswith(due), "another answer is due", due, answer, password)
+        door.ends(0)
+    for name, does, status in ("killed", Door.kills_hall, 1), ("ended", lambda door: door.run.process.terminate(), 0):
+        with door_and_dovecot(folder, name) as (door, port):
+            def ends() -> None:
+                does(door)
+                equal(door.status(), status, "the status of the door")
+
+            answer = told_by_imap(door, port, "SCRAM-SHA-256", [f"n,,n={NAME},r=x", ""], ends)
+            holds(answer.startswith(later), "another answer is due", later, answer, name)
+
+
+@contextlib.contextmanager
+def door_and_dovecot(folder: str, name: str) -> Iterator[tuple[Door, int]]:
+    """A door in a folder of this name, which hears an address no more after two refused logins, and Dovecot over it. Gives its port."""
+    place = Path(folder, name)
+    place.mkdir()
+    for it in folder, place:
+        os.chmod(it, 0o711)
+    userdb = f"uid=65534 gid=65534 home={place}/home"
+    flags = ["--plain", "--mode", "666", "--master", f"{place}/master", "--userdb", userdb, "--guesses", "1"]
+    door = Door(place, book_of_users(str(place)), *flags)
+    with dovecot(str(place)) as (port, _):
+        yield door, port
+
+
+def told_by_imap(door: Door, port: int, mechanism: str, messages: list[str], before_the_last: Callable[[], None] = lambda: None) -> str:
+    """What an IMAP server says at the end of a login that it refuses. The client sends these messages, and does this before the last."""
+    left = [it.encode() for it in messages]
+
+    def message(_: bytes) -> bytes:
+        if len(left) == 1:
+            before_the_last()
+        return left.pop(0)
+
+    client = imaplib.IMAP4("localhost", port, timeout=20)
+    try:
+        client.starttls(ssl.create_default_context(cafile=f"{door.folder}/cert.pem"))
+        return str(client.authenticate(mechanism, message))
+    except client.error as fault:
+        return str(fault)
+    finally:
+        client.shutdown()  # without LOGOUT, to which Dovecot does not answer while there is no door
+
+
 def logins_by_pop3(folder: str) -> None:
     """Dovecot's POP3 server."""
     if has("Dovecot's POP3", "dovecot", POP3, "openssl", "curl", root=True):
@@ -508,5 +563,8 @@ def others_at_dovecot(folder: str) -> None:
             act_as_others(folder, port, door, "dovecot/log", "Login: user=<(.*)>, method=PLAIN,", "imap")
         equal(sorted(it.name for it in homes.iterdir()), [OTHER, LIST], "who has a mailbox")
 
+
+TESTS = [logins_at_postfix, logins_at_exim, logins_at_dovecot, logins_at_dovecot_2_4, imap_answers, logins_by_pop3]
+TESTS += [mails_by_imap, others_at_postfix, others_at_exim, others_at_dovecot, differences_from_dovecot]
 
 suite.run_all()

@@ -34,6 +34,7 @@ OLD = Account("old=user, odd", "SCRAM-SHA-1")
 BOOK = book([USER, OLD])
 OK = "OK\t{}\tuser=user"
 FAIL = "FAIL\t{}\tuser=user\treason=Invalid user name or password"
+LATER = "reason=Try again later\ttemp\tcode=temp_fail"
 
 
 def greeting(folder: str) -> None:
@@ -321,8 +322,8 @@ def clients_that_leave(folder: str) -> None:
                 server.challenge(ident)
             with Server(door) as other:
                 equal(other.logs_in(1, USER), OK.format(1), "a login while all places are idle")
-            equal(server.line(), "FAIL\t2\tuser=user\treason=Try again later\ttemp", "the login that has given way")
-            late = [f"FAIL\t{it}\tuser=user\treason=Try again later\ttemp" for it in (3, 4)]
+            equal(server.line(), f"FAIL\t2\tuser=user\t{LATER}", "the login that has given way")
+            late = [f"FAIL\t{it}\tuser=user\t{LATER}" for it in (3, 4)]
             equal([server.line() for _ in range(3)], [*late, ""], "logins that take too long, the last of which ends the connection")
         with Server(door) as server:
             equal(server.logs_in(1, USER), OK.format(1), "a login after that")
@@ -392,16 +393,12 @@ def many_files(folder: str) -> None:
 def halls_that_fail(folder: str) -> None:
     """If the hall is killed, or the log can't be written, no login is accepted any more: the connections are closed, and the door ends and
     says why. The log is then the beginning of a clean one."""
-    def killed(door: Door) -> None:
-        [hall] = Path(f"/proc/{door.run.process.pid}/task/{door.run.process.pid}/children").read_text().split()
-        os.kill(int(hall), signal.SIGKILL)
-
     def full(door: Door) -> None:
         [log] = door.logs.glob("*.log")
         most = log.stat().st_size + 30
         resource.prlimit(door.run.process.pid, resource.RLIMIT_FSIZE, (most, most))
 
-    for trial, (does, fault) in each([(killed, '"the hall has ended"'), (full, '"the log can\'t be written: File too large"')]):
+    for trial, (does, fault) in each([(Door.kills_hall, '"the hall has ended"'), (full, '"the log can\'t be written: File too large"')]):
         with trial:
             place = Path(folder, does.__name__)
             place.mkdir()

@@ -70,6 +70,11 @@ class Door:
         holds(not self.socket.exists(), "the socket is left")
         equal(sum(self.audits()), accepted, "the accepted logins")
 
+    def kills_hall(self) -> None:
+        """Kills the hall behind the door."""
+        [hall] = Path(f"/proc/{self.run.process.pid}/task/{self.run.process.pid}/children").read_text().split()
+        os.kill(int(hall), signal.SIGKILL)
+
     def status(self) -> int:
         """Waits for the end of the door and of its journal. Returns the status of the door."""
         status = self.run.end().status

@@ -35,6 +35,7 @@ PASSWORDS = ("PLAIN", "LOGIN")
 KEPT = {"service": "service", "protocol": "service", "rip": "rip", "lip": "lip", "session": "client"}
 LONGEST_KEPT = 64  # characters of each
 REFUSED = "Invalid user name or password"
+TEMPORARY = "\ttemp\tcode=temp_fail"  # the first is of Dovecot before 2.3
 
 
 class Malformed(Exception):
@@ -306,15 +307,16 @@ class Connection(asyncio.Protocol):
 
     def send_fail(self, request: Request, is_final: bool) -> None:
         """Refuses a login; if that is not final, for now. Postfix and Exim overlook the word `temp`, and say that the client should try
-        again only if the connection is lost: so it is, if it has no other login."""
+        again only if the connection is lost: so it is, if it has no other login. Dovecot would then say that the password is wrong."""
         self.end(request)
-        if not is_final and not self.requests:
+        is_smtp = request.settings.get("service") == "smtp"
+        if is_smtp and not is_final and not self.requests:
             self.flush()
             return self.transport.close()
         user = f"\tuser={request.user}" if request.user else ""
         # An IMAP client shows the reason to its user as an alert.
-        reason = "\treason=" + (REFUSED if is_final else "Try again later") if request.settings.get("service") == "smtp" else ""
-        self.send(f"FAIL\t{request.ident.decode()}{user}{reason}{'' if is_final else chr(9) + 'temp'}".encode())
+        reason = "\treason=" + (REFUSED if is_final else "Try again later") if is_smtp else ""
+        self.send(f"FAIL\t{request.ident.decode()}{user}{reason}{'' if is_final else TEMPORARY}".encode())
 
 
 class Door:
@@ -356,6 +358,7 @@ class Door:
         finally:
             server.close()
             for request in list(self.open_ones):
-                request.gives_up()
+                request.ends("failed")
             for connection in list(self.connections):
+                connection.flush()
                 connection.transport.abort()
