@@ -6,11 +6,13 @@ use Rattle.std.specs.declared.result.Result.TheVariants.{Ok, Err}
 use Rattle.scram_text.specs.Messages.{ClientFirstParts, gs2_header, client_first_bare, ServerFirstParts, IsServerFirst, server_first_mandatory}
 use Rattle.scram_text.specs.Messages.{verifier, ServerFinalParts, IsServerFinal, server_final_mandatory}
 use Rattle.scram_text.specs.FirstUnmet.{IsFirstUnmet}
+use Rattle.scram_text.specs.Written.{IsClientFinalWithoutProof}
 use Rattle.scram_text.specs.Faults.{IsServerFirstFault, IsServerFinalFault}
 use Rattle.scram_text.specs.declared.fault.WriteFault.{WriteFault}
 use Rattle.scram_ends.specs.Stages.{Started, Answered}
 use Rattle.scram_ends.specs.Honest.{IsHonestFirst, IsHonest, honest_signature}
 use Rattle.scram_ends.specs.declared.client.Limits.{Limits}
+use Rattle.scram_ends.specs.declared.client.ClientAnswer.{ClientAnswer}
 use Rattle.scram_ends.specs.declared.client.ClientOne.{ClientOne}
 use Rattle.scram_ends.specs.declared.client.ClientTwo.{ClientTwo}
 use Rattle.scram_ends.specs.declared.client.OneRefused.{OneRefused}
@@ -48,6 +50,14 @@ pub record StandsForAnswered (client : ClientTwo) (login : Answered) : Type 0 wh
   pub signature : List ℕ
   pub signed : signature ≡ honest_signature login honest
   pub expected : client.expected.items ≡ signature
+
+-- the answer is the client-final message of this login, before its proof, and the proof, as an honest client builds them, and the
+-- signature that the client then expects from the server
+pub record IsAnswer (answer : ClientAnswer) (login : Answered) : Type 0 where
+  pub honest : IsHonest login
+  pub without_proof : IsClientFinalWithoutProof answer.without_proof honest.final
+  pub proof : answer.proof.items ≡ honest.final.proof
+  pub expected : answer.expected.items ≡ honest_signature login honest
 
 -- the faults of a server-first message that a client is to answer, in the order in which they are judged. Text is not among them:
 -- it is the fault of a text that is not a server-first message.

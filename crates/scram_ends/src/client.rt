@@ -1,22 +1,23 @@
 //! The client's end of a login: `Client::start` writes client-first, `ClientOne::first` writes client-final, and `ClientTwo::last`
-//! checks that the server has the account's keys.
+//! checks that the server has the account's keys. `Client::begin`, `ClientOne::answer` and `check_server` are the same three steps
+//! without memory, for a client that keeps nothing between them.
 //!
 //! A client sends the flag `n` and no extensions. It does not answer a challenge whose iteration count is outside its limits: a
 //! small count would make it cheap to try passwords against its proof, and a large one would keep it busy (RFC 5802, section 9, and
 //! RFC 7677, section 4).
-ghost use Rattle.std.specs.Prelude.{◌≡◌};
-ghost use Rattle.scram_ends.specs.Client.{AreUsual};
-ghost use Rattle.scram_ends.specs.Faults.{client_fault_number};
+ghost use Rattle.std.specs.Prelude.{◌≡◌, ◌≤◌, length};
 ghost use Rattle.scram_ends.specs.declared.client.ClientFault.TheVariants.{Text};
 
 mod answer;
+mod begin;
 mod last;
 mod start;
 
 use crate::lengths::{MAX_BARE_LEN, MAX_HEADER_LEN};
 use arrayvec::ArrayVec;
+pub use last::check_server;
 use mac_core::{Mechanism, Tag};
-use scram_text::{MAX_NONCE_PART_LEN, TextFault, WriteFault};
+use scram_text::{ClientFinalWithoutProof, MAX_NONCE_PART_LEN, TextFault, WriteFault};
 use thiserror::Error;
 
 // The least iteration count that a client usually accepts: servers should ask for at least that (RFC 5802, section 5.1).
@@ -40,6 +41,8 @@ pub struct Limits {
 }
 
 impl Limits {
+    ghost use Rattle.scram_ends.specs.Client.{AreUsual};
+
     /// 4096 to 1000000. RFC 5802, section 5.1, asks servers for at least 4096; the greatest is this crate's own choice.
     pub fn usual() -> Limits
         ensures { AreUsual result }
@@ -84,6 +87,8 @@ pub enum ClientFault {
 }
 
 impl ClientFault {
+    ghost use Rattle.scram_ends.specs.Faults.{client_fault_number};
+
     /// The number of the fault, 24 to 30.
     pub fn number(&self) -> u16
         ensures { result ≡ client_fault_number self.now }
@@ -121,6 +126,8 @@ pub struct ClientOne {
     header: ArrayVec<u8, MAX_HEADER_LEN>,
     // The client's own nonce.
     nonce: ArrayVec<u8, MAX_NONCE_PART_LEN>,
+
+    ghost has_header: { 1 ≤ length header.items },
 }
 
 /// Why a `ClientOne` does not answer a challenge.
@@ -131,6 +138,19 @@ pub enum OneRefused {
 
     /// The answer could not be written, and the client is unchanged.
     Back(ClientOne, WriteFault),
+}
+
+/// A client's answer to a challenge, not yet written.
+#[derive(Drop)]
+pub struct ClientAnswer {
+    /// The client-final message before its proof.
+    pub without_proof: ClientFinalWithoutProof,
+
+    /// The proof.
+    pub proof: Tag,
+
+    /// The signature that the client then expects from the server.
+    pub expected: Tag,
 }
 
 /// A client that has sent its proof and waits for the server's signature.

@@ -32,10 +32,14 @@ mod signing;
 mod verdict;
 mod write;
 
-pub use client::{Authenticated, Client, ClientFault, ClientOne, ClientTwo, Limits, OneRefused};
+pub use client::{
+    Authenticated, Client, ClientAnswer, ClientFault, ClientOne, ClientTwo, Limits, OneRefused,
+    check_server,
+};
 pub use first::{FirstFault, first_name};
 pub use honest::honest_login;
 pub use keys_view::KeysView;
+pub use lengths::MAX_FIRST_LEN;
 pub use mac_core::Mechanism;
 pub use recorded::RecordedFault;
 pub use server::{FirstRefused, ServerWait, server_first};

@@ -1,16 +1,18 @@
 //! The client's answer to a challenge: client-final with the proof, for example
 //! `c=biws,r=fyko+d2lbbFgONRv9qkxdawL3rfcNHYJY1ZVvWVs7j,p=v0X8v3Bz2T0CJGbJQyF0X+HI4Ts=`.
-ghost use Rattle.std.specs.Prelude.{◌≡◌, ◌≤◌, ◌<◌, ◌+◌, ℕ, List, ◌++◌, length, slice_index, IfOk, IfErr};
+ghost use Rattle.std.specs.Prelude.{◌≡◌, ◌≤◌, ◌<◌, ◌+◌, ℕ, List, ◌++◌, length, slice_index, IfOk, IfErr, OnOk, IsOk};
 ghost use Rattle.mac_core.specs.Mechanism.{hmac_by, digest_len_by};
+ghost use Rattle.scram_text.specs.Limits.{max_nonce_len};
+ghost use Rattle.scram_text.specs.Class.{IsNonce};
 ghost use Rattle.scram_text.specs.Messages.{ClientFirstParts, client_first_bare, ServerFirstParts, IsServerFirst};
 ghost use Rattle.scram_text.specs.Shown.{ShowsServerFirst};
 ghost use Rattle.scram_text.specs.Appended.{LeavesOnErr, LacksRoom};
 ghost use Rattle.scram_ends.specs.Stages.{Started, answered_login};
 ghost use Rattle.scram_ends.specs.Auth.{auth_to_challenge, proof_of, expected_signature};
 ghost use Rattle.scram_ends.specs.Honest.{IsHonest, max_honest_final_len};
-ghost use Rattle.scram_ends.specs.Client.{StandsForStarted, IsAnswerable, StandsForAnswered, IsChallengeFault, IsUnspent, IfSpent, IfBack};
+ghost use Rattle.scram_ends.specs.Client.{StandsForStarted, IsAnswerable, IsAnswer, StandsForAnswered, IsChallengeFault, IsUnspent, IfSpent, IfBack};
 
-use crate::client::{ClientFault, ClientOne, ClientTwo, OneRefused};
+use crate::client::{ClientAnswer, ClientFault, ClientOne, ClientTwo, OneRefused};
 use crate::signing::running_mac;
 use mac_core::{Tag, law_of_bytes, xor};
 use scram_text::{ClientFinalWithoutProof, Password, ServerFirst, WriteFault, read_server_first};
@@ -59,7 +61,7 @@ impl ClientOne {
             Ok(challenge) => challenge,
             Err(fault) => return Err(OneRefused::Spent(fault)),
         };
-        match self.answer(password, server_first, &challenge, out) {
+        match self.append_answer(password, server_first, &challenge, out) {
             Ok(two) => Ok(two),
             Err(fault) => Err(OneRefused::Back(self, fault)),
         }
@@ -89,15 +91,37 @@ impl ClientOne {
         Ok(challenge)
     }
 
+    /// As `first`, but it takes no memory: the answer is in fixed buffers. Errors: 24 to 28, as `first` has them.
+    pub fn answer(
+        &self,
+        password: &Password,
+        server_first: &[u8],
+    ) -> Result<ClientAnswer, ClientFault>
+        ensures ok { IfOk result (λ answer. (l : Started) → StandsForStarted self.now l
+            → (client_final : List ℕ) × IsAnswer answer (answered_login l password.now server_first.now client_final)) }
+        // It is answered if and only if it is a challenge to this client with nothing wrong.
+        ensures answerable { OnOk result ((l : Started) → StandsForStarted self.now l
+            → (challenge : ServerFirstParts) × IsAnswerable l.limits l.nonce server_first.now challenge) }
+        ensures every { (l : Started) (challenge : ServerFirstParts) → StandsForStarted self.now l
+            → IsAnswerable l.limits l.nonce server_first.now challenge → IsOk result }
+        ensures err { IfErr result (λ fault. (l : Started) → StandsForStarted self.now l
+            → IsChallengeFault l.limits l.nonce server_first.now fault) }
+    {
+        match self.read_challenge(server_first) {
+            Ok(challenge) => Ok(self.composed(password, server_first, &challenge)),
+            Err(fault) => Err(fault),
+        }
+    }
+
     // Appends the client-final message to `out`.
-    fn answer<A: Allocator>(
+    fn append_answer<A: Allocator>(
         &self,
         password: &Password,
         server_first: &[u8],
         challenge: &ServerFirst<'_>,
         out: &mut Vec<u8, A>,
     ) -> Result<ClientTwo, WriteFault>
-        requires { 1 ≤ challenge.now.count }
+        requires { (1 ≤ challenge.now.count) × IsNonce max_nonce_len challenge.now.nonce.now }
         ensures ok { IfOk result (λ two. (l : Started) (p : ServerFirstParts) → StandsForStarted self.now l
             → IsServerFirst server_first.now p → ShowsServerFirst challenge.now p
             → (client_final : List ℕ) × (out.new.items ≡ out.old.items ++ client_final)
@@ -109,14 +133,36 @@ impl ClientOne {
             × IsHonest (answered_login l password.now server_first.now client_final)
             × LacksRoom out.old client_final)) }
     {
+        let answer = self.composed(password, server_first, challenge);
+        answer.without_proof.write_with_proof(&answer.proof, out)?;
+        Ok(ClientTwo {
+            expected: answer.expected,
+        })
+    }
+
+    // The answer to a challenge.
+    fn composed(
+        &self,
+        password: &Password,
+        server_first: &[u8],
+        challenge: &ServerFirst<'_>,
+    ) -> ClientAnswer
+        requires { (1 ≤ challenge.now.count) × IsNonce max_nonce_len challenge.now.nonce.now }
+        ensures { (l : Started) (p : ServerFirstParts) → StandsForStarted self.now l
+            → IsServerFirst server_first.now p → ShowsServerFirst challenge.now p
+            → (client_final : List ℕ) × IsAnswer result (answered_login l password.now server_first.now client_final) }
+    {
         let header = self.header.as_slice();
         law_of_bytes(header);
-        let without_proof = ClientFinalWithoutProof::new(header, challenge.nonce, b"")?;
+        let Ok(without_proof) = ClientFinalWithoutProof::new(header, challenge.nonce, b"") else {
+            unreachable!()
+        };
         let proved = self.prove(password, server_first, challenge, without_proof.as_slice());
-        without_proof.write_with_proof(&proved.proof, out)?;
-        Ok(ClientTwo {
+        ClientAnswer {
+            without_proof,
+            proof: proved.proof,
             expected: proved.expected,
-        })
+        }
     }
 
     // The proof, and the signature to expect.

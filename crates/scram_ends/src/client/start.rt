@@ -61,15 +61,16 @@ fn cut_header(
 ) -> (ArrayVec<u8, MAX_HEADER_LEN>, ArrayVec<u8, MAX_BARE_LEN>)
     requires { (name : List ℕ) × (authzid : Option (List ℕ)) × (nonce : List ℕ) × (first : ClientFirstParts)
         × IsHonestFirst name authzid nonce message.now first × (header_len ≡ length (gs2_header first)) }
-    ensures { (first : ClientFirstParts) → message.now ≡ client_first_text first → header_len ≡ length (gs2_header first)
+    ensures some { 1 ≤ length result.0.items }
+    ensures cut { (first : ClientFirstParts) → message.now ≡ client_first_text first → header_len ≡ length (gs2_header first)
         → (result.0.items ≡ gs2_header first) × (result.1.items ≡ client_first_bare first) }
 {
     let (header, bare) = message.split_at(header_len);
     (copy_of(header), copy_of(bare))
 }
 
-// A law: names and nonces are in their classes by their types. Only the proof needs it.
-fn law_of_names(name: &PlainName, authzid: Option<&PlainName>, nonce: &NoncePart)
+/// A law: names and nonces are in their classes by their types. Only the proof needs it.
+pub(crate) fn law_of_names(name: &PlainName, authzid: Option<&PlainName>, nonce: &NoncePart)
     ensures name { IsPlainName name.now }
     ensures authzid { IfSome (option_copied authzid.entry) IsPlainName }
     ensures nonce { IsNoncePart nonce.now }

@@ -63,7 +63,7 @@ returns-clause-ok g c =
     let start : c.len-start.result ≡ length c.args.out.now.items = search rules in
     let message = slice_after_front_is_text c.deref.result.now c.args.out.now.items (client_first_text first) c.len-start.result
     (c.deref.ensures.value ∙ written.appended.0) start in
-    let cut = c.cut_header-header.ensures first message c.in_ok-header_len.ensures.header in (
+    let cut = c.cut_header-header.ensures.cut first message c.in_ok-header_len.ensures.header in (
       client_first_text first,
       written.appended.0,
       record {
@@ -77,3 +77,6 @@ returns-clause-ok g c =
         nonce = c.copy_of.ensures ∙ c.bytes.ensures.value;
       },
     )
+
+pub invariant_of-result : goal.invariant_of-result
+invariant_of-result g c = record { has_header = c.cut_header-header.ensures.some }

@@ -2,7 +2,7 @@ use Rattle.std.proofs.Common.{◌≡◌, ℕ, List, length, take, drop, ◌∙�
 use Rattle.scram_text.specs.Messages.{ClientFirstParts, gs2_header, client_first_bare, client_first_text}
 use Rattle.scram_text.proofs.lemmas.messages_composed.ClientFirst.{header_is_no_longer}
 use Rattle.scram_ends.proofs.lemmas.Written.{cut_at_front_is_front_and_text}
-use Rattle.scram_ends.proofs.lemmas.client_messages.Headers.{honest_header_is_short, honest_bare_is_short}
+use Rattle.scram_ends.proofs.lemmas.client_messages.Headers.{header_is_in_range, honest_header_is_short, honest_bare_is_short}
 use Rattle.scram_ends.proofs.client.start.cut_header.Goals as goal
 
 -- a client-first message that is cut after its gs2-header has the header and the bare message
@@ -29,7 +29,13 @@ copy_of-requires-2 c =
     let cut = message_is_cut first c.args.message.now c.args.header_len honest.is_first.spelled headed in
     (omega arith, honest_bare_is_short honest _ (c.split_at.ensures.back ∙ cut.1))
 
-pub returns : goal.returns
-returns c first is headed =
+pub returns-clause-some : goal.returns-clause-some
+returns-clause-some c =
+    let (name, authzid, nonce, first, honest, headed) = c.requires in
+    let cut = message_is_cut first c.args.message.now c.args.header_len honest.is_first.spelled headed in
+    omega (arith, ap length (c.copy_of.ensures ∙ (c.split_at.ensures.front ∙ cut.0)), (header_is_in_range honest).0)
+
+pub returns-clause-cut : goal.returns-clause-cut
+returns-clause-cut c first is headed =
     let cut = message_is_cut first c.args.message.now c.args.header_len is headed in
     (c.copy_of.ensures ∙ (c.split_at.ensures.front ∙ cut.0), c.copy_of-2.ensures ∙ (c.split_at.ensures.back ∙ cut.1))
