@@ -1,5 +1,5 @@
-/* libscramotp: SCRAM-SHA-1 and SCRAM-SHA-256 at a server (RFC 5802, RFC 7677), without channel binding; HOTP and TOTP codes (RFC 4226,
- * RFC 6238).
+/* libscramotp: SCRAM-SHA-1 and SCRAM-SHA-256 at a server and at a client (RFC 5802, RFC 7677), without channel binding; HOTP and TOTP
+ * codes (RFC 4226, RFC 6238).
  *
  * Each call is proved to do what is said here. No call allocates memory, keeps a pointer, or shares anything with another call, so any
  * thread may make any call at any time.
@@ -29,7 +29,21 @@
  *         put(verdict, verdict_len);
  *     return number == SCRAMOTP_OK ? accepted : refused;
  *
- * examples/login.c is a whole program.
+ * examples/login.c and examples/client.c are whole programs.
+ *
+ * A client's login. Its struct stays the same in all calls.
+ *
+ *     scramotp_client client = {{"user", 4}, {"", 0}, {nonce, 24}, SCRAMOTP_SHA_256, 4096, 1000000};
+ *     if (scramotp_client_first(&client, first, sizeof first, &first_len) != 0)
+ *         return refused;
+ *     put(first, first_len);
+ *     challenge_len = get(challenge);
+ *     if (scramotp_client_final(&client, password, password_len, challenge, challenge_len, final, sizeof final, &final_len,
+ *             signature) != 0)
+ *         return refused;
+ *     put(final, final_len);
+ *     verdict_len = get(verdict);
+ *     return scramotp_client_check(client.mechanism, signature, verdict, verdict_len) == 0 ? accepted : refused;
  *
  * A code. A token is its secret and a struct, of which `next`, `last`, `drift` and `failures` are state. Judge one code of a token at a
  * time, and store the token before you act on a pass: else the code can pass again.
@@ -58,6 +72,7 @@ enum { SCRAMOTP_SHA_1 = 1, SCRAMOTP_SHA_256 = 256, SCRAMOTP_SHA_512 = 512 };
 
 /* The room that the longest messages need. */
 enum { SCRAMOTP_FIRST_ROOM = 618, SCRAMOTP_FINAL_ROOM = 46 };
+enum { SCRAMOTP_CLIENT_FIRST_ROOM = 1796, SCRAMOTP_CLIENT_FINAL_ROOM = 1592 };
 
 /* What a server keeps for a name and a mechanism. */
 typedef struct {
@@ -113,6 +128,32 @@ uint32_t scramotp_server_final(const scramotp_entry *entry, const scramotp_bytes
     size_t client_first_len, const void *server_first, size_t server_first_len, const void *client_final, size_t client_final_len,
     void *out, size_t out_room, size_t *out_len);
 
+/* A client's login. */
+typedef struct {
+    scramotp_bytes name;    /* who logs in: 1 to 255 bytes from space to tilde */
+    scramotp_bytes act_as;  /* the name to act as (authzid): also such bytes, or empty for none */
+    scramotp_bytes nonce;   /* 1 to 256 bytes from `!` to tilde, without a comma: take the base64 of 18 fresh random bytes */
+    uint32_t mechanism;
+    uint32_t least;         /* the least iteration count that the client accepts, at least 1: take 4096 */
+    uint32_t most;          /* the greatest, which decides how long a server can keep you busy: take 1000000 */
+} scramotp_client;
+
+/* Writes a client's first message. The room has to be SCRAMOTP_CLIENT_FIRST_ROOM or more.
+ * Numbers: 90 mechanism, 65 least, 63 name and act_as, 92 nonce, 93 room; the first of these that applies. */
+uint32_t scramotp_client_first(const scramotp_client *client, void *out, size_t out_room, size_t *out_len);
+
+/* Answers the challenge of the server to this client's first message: writes the client's final message, with the proof of the password,
+ * and the signature that the server then has to show. The room has to be SCRAMOTP_CLIENT_FINAL_ROOM or more. The count in the challenge
+ * decides how long the call takes.
+ * Numbers: 90, 65, 63, 92 of the client, 91 password, 93 room, 24 to 28 of the challenge; the first of these that applies. */
+uint32_t scramotp_client_final(const scramotp_client *client, const void *password, size_t password_len, const void *server_first,
+    size_t server_first_len, void *out, size_t out_room, size_t *out_len, uint8_t signature[32]);
+
+/* Checks the server's final message: the answer is 0 exactly if it shows this signature. Then, and not before, you know that the server
+ * has the keys of the password.
+ * Numbers: 90 mechanism, 24, 25, 29, 30 of the message; the first of these that applies. */
+uint32_t scramotp_client_check(uint32_t mechanism, const uint8_t signature[32], const void *server_final, size_t server_final_len);
+
 /* A HOTP token without its secret (RFC 4226, section 7): 6 digits from counter 0 on are {0, 2, 10, 5, 0, 6}. */
 typedef struct {
     uint64_t next;          /* state: the least counter that can pass, or 2^63 - 1 if none can */
@@ -159,6 +200,13 @@ enum {
     SCRAMOTP_MANDATORY = 21,        /* it asks for a mandatory extension */
     SCRAMOTP_BINDING_ASKED = 22,    /* it asks for channel binding */
     SCRAMOTP_OUTSIDE_PROFILE = 23,  /* a name in it is not 1 to 255 bytes from space to tilde */
+    SCRAMOTP_NOT_SERVER_MESSAGE = 24, /* the text is not the message that the server has to send */
+    SCRAMOTP_SERVER_MANDATORY = 25, /* it asks for a mandatory extension */
+    SCRAMOTP_NONCE_NOT_MINE = 26,   /* the nonce does not begin with the client's */
+    SCRAMOTP_NONCE_NOT_LONGER = 27, /* the server has added nothing to the client's nonce */
+    SCRAMOTP_COUNT_OUTSIDE = 28,    /* the iteration count is not from `least` to `most` */
+    SCRAMOTP_SERVER_REFUSED = 29,   /* the server refuses the login: its message is `e=` and why */
+    SCRAMOTP_WRONG_SIGNATURE = 30,  /* the message shows another signature: the server does not have the keys of the password */
     SCRAMOTP_NOT_CHALLENGE = 31,    /* the second text is not a challenge to the first message with the entry's salt and count */
 
     SCRAMOTP_INVALID_ENCODING = 32, /* the text is not a client's final message: e=invalid-encoding */
@@ -176,12 +224,12 @@ enum {
 
     SCRAMOTP_BAD_NAME = 63,         /* the name is not 1 to 255 bytes from space to tilde */
     SCRAMOTP_BAD_SALT = 64,         /* the salt does not have 1 to 64 bytes */
-    SCRAMOTP_BAD_COUNT = 65,        /* the count is 0 */
+    SCRAMOTP_BAD_COUNT = 65,        /* the count, or the least that a client accepts, is 0 */
     SCRAMOTP_BAD_KEY_LEN = 66,      /* key_len is neither 0 nor the length of the mechanism's keys */
     SCRAMOTP_BAD_MECHANISM = 90,    /* there is no mechanism of this number */
     SCRAMOTP_BAD_PASSWORD = 91,     /* the password is not 1 to 1024 bytes from space to tilde */
-    SCRAMOTP_BAD_NONCE = 92,        /* the server's part of the nonce is not 1 to 256 bytes from `!` to tilde without a comma */
-    SCRAMOTP_NO_ROOM = 93,          /* the message is longer than out_room */
+    SCRAMOTP_BAD_NONCE = 92,        /* a part of the nonce is not 1 to 256 bytes from `!` to tilde without a comma */
+    SCRAMOTP_NO_ROOM = 93,          /* the message, or of a client's the longest, is longer than out_room */
     SCRAMOTP_BAD_HASH = 94,         /* there is no hash function of this number */
     SCRAMOTP_BAD_MOMENT = 95        /* t0 or the moment is after the year 9999 */
 };

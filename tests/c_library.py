@@ -157,6 +157,48 @@ def code_example(folder: str) -> None:
             equal(ran([program, *words]), (0, output, ""))
 
 
+class Started(NamedTuple):
+    """A client's login: the exchange that it begins like, the name, the name to act as, and its first message."""
+
+    of: dict[str, str]
+    name: str
+    act_as: str
+    first: str
+
+
+def started(of: dict[str, str], name: str, act_as: str, spelled: str) -> Started:
+    """A client's login with the nonce of a published exchange, whose names are spelled so between the flag and the nonce."""
+    return Started(of, name, act_as, f"n,{spelled},r={of['first'].partition('r=')[2]}")
+
+
+# Both published exchanges, and names that have a comma, an equals sign, and the longest that are spelled longest.
+STARTED = [
+    started(SHA1, "user", "", ",n=user"), started(SHA256, "user", "", ",n=user"), started(SHA1, "user", "root", "a=root,n=user"),
+    started(SHA256, "a,b=c", "=,", "a==3D=2C,n=a=2Cb=3Dc"),
+    started(SHA256, "," * 255, "=" * 255, f"a={'=3D' * 255},n={'=2C' * 255}"),
+]
+
+
+def client_example(folder: str) -> None:
+    """The example of a client says what both RFCs say, and what was made here with Python's hmac and hashlib, and takes only the signature
+    that is due."""
+    program = compiled(EXAMPLES / "client.c", "client")
+    for trial, it in each(STARTED):
+        with trial:
+            challenge, final, verdict = final_for(it.of, it.first)
+            if it.first == it.of["first"]:
+                equal((challenge, final, verdict), (it.of["challenge"], it.of["final"], it.of["verdict"]))
+            words = [program, it.of["mechanism"], it.name, it.act_as, it.of["first"].partition("r=")[2]]
+            wrong = f"v={base64_of(bytes(20 if it.of is SHA1 else 32))}"
+            for said, status, faults in [
+                (verdict, 0, f"logged in as {it.act_as or it.name}\n"), (f"{verdict},x=y", 0, f"logged in as {it.act_as or it.name}\n"),
+                (wrong, 1, "refused: 30\n"), ("e=invalid-proof", 1, "refused: 29\n"), (f"{verdict},m=x", 1, "refused: 25\n"),
+                (verdict[:-1], 1, "refused: 24\n"), ("", 1, "refused: 24\n"),
+            ]:
+                answer = ran(words, f"pencil\n{challenge}\n{said}\n")
+                equal((answer.output, answer.faults, answer.status), (f"{it.first}\n{final}\n", faults, status), said)
+
+
 def under_valgrind(folder: str) -> None:
     """Valgrind finds no fault in the examples in C."""
     if not has("the examples in C under valgrind", "valgrind"):
@@ -167,6 +209,12 @@ def under_valgrind(folder: str) -> None:
             for final, status, said in [(of["final"], 0, "user is logged in as user\n"), (of["final"][:-4] + "AAA=", 1, "refused: 36\n")]:
                 answer = ran([*watched, *login, of["mechanism"], of["salt"], of["nonce"]], f"{of['first']}\n{final}\n")
                 answer.given(status=status, faults=said)
+    for trial, it in each(STARTED[:2]):
+        with trial:
+            client = compiled(EXAMPLES / "client.c", "client")
+            words = [*watched, client, it.of["mechanism"], it.name, "", it.of["first"].partition("r=")[2]]
+            answer = ran(words, f"pencil\n{it.of['challenge']}\n{it.of['verdict']}\n")
+            answer.given(faults="logged in as user\n")
     for trial, (words, output) in each(CODE_RUNS):
         with trial:
             equal(ran([*watched, compiled(EXAMPLES / "code.c", "code"), *words]), (0, output, ""))
@@ -225,6 +273,19 @@ class Entry(ctypes.Structure):
 
     _fields_ = [("mechanism", ctypes.c_uint32), ("count", ctypes.c_uint32), ("salt_len", ctypes.c_size_t), ("key_len", ctypes.c_size_t)]
     _fields_ += [(name, ctypes.c_uint8 * 64) for name in ("salt", "stored_key", "server_key")]
+
+
+class Bytes(ctypes.Structure):
+    """scramotp_bytes"""
+
+    _fields_ = [("at", ctypes.c_char_p), ("len", ctypes.c_size_t)]
+
+
+class Client(ctypes.Structure):
+    """scramotp_client"""
+
+    _fields_ = [(name, Bytes) for name in ("name", "act_as", "nonce")]
+    _fields_ += [(name, ctypes.c_uint32) for name in ("mechanism", "least", "most")]
 
 
 class Hotp(ctypes.Structure):
@@ -310,10 +371,11 @@ def decoys(folder: str) -> None:
             equal(bytes(entry), before)
 
 
-def written(name: str, room: int, *given: Any) -> tuple[int, bytes, int]:
-    """Makes a call that writes a message into a buffer of X. Returns its number, the buffer, and the length that was written."""
+def written(name: str, room: int, *given: Any, after: tuple[Any, ...] = ()) -> tuple[int, bytes, int]:
+    """Makes a call that writes a message into a buffer of X, with these arguments before and after it. Returns its number, the buffer, and
+    the length that was written."""
     out, size = ctypes.create_string_buffer(b"X" * (room + 9)), ctypes.c_size_t(777)
-    return call(name, *given, out, ctypes.c_size_t(room), ctypes.byref(size)), out.raw[:-1], size.value
+    return call(name, *given, out, ctypes.c_size_t(room), ctypes.byref(size), *after), out.raw[:-1], size.value
 
 
 def rooms(folder: str) -> None:
@@ -370,6 +432,55 @@ def faults(folder: str) -> None:
     ]):
         with trial:
             equal(written("server_final", 700, entry, *none, message, answer, final), (want, b"X" * 709, 777))
+
+
+def client_of(name: bytes = b"user", act_as: bytes = b"", nonce: bytes = b"rOprNGfwEbeRWgbNEkqO", mechanism: int = 256, least: int = 4096,
+              most: int = 4096) -> Client:
+    """A client's login, as that of RFC 7677 if nothing else is said."""
+    return Client(*(Bytes(it, len(it)) for it in (name, act_as, nonce)), mechanism, least, most)
+
+
+def client_rooms(folder: str) -> None:
+    """A client's message is written if there is room for the longest, and nothing after it is changed; else 93 is returned and nothing is
+    written."""
+    challenge, signature = SHA256["challenge"].encode(), ctypes.create_string_buffer(b"S" * 32, 32)
+    texts = [(1796, "client_first", (), SHA256["first"]), (1592, "client_final", (b"pencil", challenge), SHA256["final"])]
+    for trial, (least, name, given, text) in each(texts):
+        with trial:
+            more = (signature,) if name == "client_final" else ()
+            for room, want in [(0, 93), (least - 1, 93), (least, 0), (least + 1, 0)]:
+                made = written(name, room, client_of(), *given, after=more)
+                equal(made, (0, text.encode().ljust(room + 9, b"X"), len(text)) if want == 0 else (93, b"X" * (room + 9), 777))
+            equal(signature.raw != b"S" * 32, name == "client_final")
+
+
+def client_faults(folder: str) -> None:
+    """A client that is none, a password that is none and a challenge that a client does not answer are refused, by the first of their
+    numbers, and nothing is written."""
+    challenge, signature, none = SHA256["challenge"].encode(), ctypes.create_string_buffer(b"S" * 32, 32), b"X" * 2009
+    long = b"u" * 256
+    for trial, (want, client) in each([
+        (90, client_of(mechanism=0, least=0)), (90, client_of(mechanism=512)), (65, client_of(least=0, name=b"")),
+        (63, client_of(name=b"")), (63, client_of(name=long)), (63, client_of(name=b"us\xc3\xa9r")),
+        (63, client_of(act_as=long, nonce=b"")), (63, client_of(act_as=b"\n")),
+        (92, client_of(nonce=b"")), (92, client_of(nonce=b"a,b")), (92, client_of(nonce=b"a b")), (92, client_of(nonce=b"a" * 257)),
+    ]):
+        with trial:
+            equal(written("client_first", 0 if want < 90 else 2000, client)[0], want)
+            equal(written("client_final", 2000, client, b"", b"", after=(signature,)), (want, none, 777))
+    mine = b"r=rOprNGfwEbeRWgbNEkqO"
+    for trial, (want, password, text, client) in each([
+        (91, b"", b"", client_of()), (91, b"p" * 1025, b"", client_of()), (91, b"p\n", b"", client_of()), (24, b"p", b"", client_of()),
+        (24, b"p", challenge[:-1] + b"x", client_of()), (25, b"p", challenge + b",m=x", client_of()),
+        (25, b"p", b"m=x," + challenge, client_of()),
+        (26, b"p", challenge[:4] + challenge[5:], client_of()), (26, b"p", challenge, client_of(nonce=b"OprN")),
+        (27, b"p", mine + b",s=AAAA,i=4096", client_of()), (28, b"p", challenge, client_of(least=4097, most=9999)),
+        (28, b"p", challenge, client_of(most=4095, least=1)),
+    ]):
+        with trial:
+            equal(written("client_final", 2000, client, password, text, after=(signature,)), (want, none, 777))
+            equal(signature.raw, b"S" * 32)
+    equal(call("client_check", number(2), signature, b"v=AAAA"), 90)
 
 
 def codes(folder: str) -> None:
@@ -492,7 +603,7 @@ def fuzzed(folder: str) -> None:
     """Random and changed messages in buffers of exactly their length, and NULL where the length is 0: no call reads or writes outside."""
     if program := sanitized("c_library_fuzz.c", "fuzz", "address,undefined"):
         seen = {int(it) for it in ran([program, str(suite.SEED), "20000"]).given().split()}
-        holds(seen >= {0, 20, 31, 32, 34, 36, 42, 43, 44, 63, 64, 65, 66, 90, 91, 92, 93}, "numbers that were seen", sorted(seen))
+        holds(seen >= {0, 20, 24, 26, 28, 30, 31, 32, 34, 36, 42, 43, 44, 63, 64, 65, 66, 90, 91, 92, 93}, "numbers that were seen", sorted(seen))
 
 
 def threads(folder: str) -> None:

@@ -15,6 +15,7 @@ static const char challenge_text[] = "r=rOprNGfwEbeRWgbNEkqO%hvYDpWUa2RaTCAfuxFI
 static const char final_text[] =
     "c=biws,r=rOprNGfwEbeRWgbNEkqO%hvYDpWUa2RaTCAfuxFIlj)hNlF$k0,p=dHzbZapWIk4jUhN+Ute9ytag9zjfMHgsqmmiz7AndVQ=";
 static const uint8_t salt_bytes[16] = {91, 109, 153, 104, 157, 18, 53, 142, 236, 160, 75, 20, 18, 54, 250, 129};
+static const char verdict_text[] = "v=6rriTRBi23WpRR/wtup+mMhUZUn/dB5nLTJRsjl95G4=";
 static const char secret_text[] = "12345678901234567890";
 
 enum { NUMBERS = 100, LONGEST = 2200 };
@@ -126,6 +127,35 @@ static void log_in(void)
         free(all[i].at);
 }
 
+/* Bytes as the library takes them in a struct, where the pointer is never NULL. */
+static scramotp_bytes bytes_of(buffer it)
+{
+    return (scramotp_bytes){it.at ? it.at : (const uint8_t *)"", it.len};
+}
+
+static void log_in_as_client(void)
+{
+    buffer name = changed("user"), act_as = changed("root"), nonce = changed("rOprNGfwEbeRWgbNEkqO"), password = changed("pencil");
+    buffer challenge = changed(challenge_text), verdict = changed(verdict_text), out = {NULL, 1500 + below(500)};
+    scramotp_client client = {bytes_of(name), bytes_of(act_as), bytes_of(nonce), below(9) ? SCRAMOTP_SHA_256 : (uint32_t)below(3),
+        below(9) ? 1 : (uint32_t)below(2), below(9) ? 5000 : 4095};
+    uint8_t *signature = malloc(32);
+    size_t len = 0;
+    out.at = malloc(out.len);
+    memset(signature, 0, 32);
+    if (note(scramotp_client_first(&client, out.at, out.len, &len)) == 0 && len > out.len)
+        abort();
+    /* Most of them have nothing wrong, and would take long. */
+    if (below(9) == 0 && note(scramotp_client_final(&client, password.at, password.len, challenge.at, challenge.len, out.at, out.len, &len,
+        signature)) == 0 && len > out.len)
+        abort();
+    note(scramotp_client_check(client.mechanism, signature, verdict.at, verdict.len));
+    buffer all[] = {name, act_as, nonce, password, challenge, verdict, out};
+    for (size_t i = 0; i < sizeof all / sizeof *all; i++)
+        free(all[i].at);
+    free(signature);
+}
+
 static void judge_codes(void)
 {
     buffer secret = changed(secret_text), code = changed("755224"), next = changed("287082");
@@ -148,6 +178,7 @@ int main(int count, char **words)
     state = strtoull(words[1], NULL, 10) * 2654435761u + 88172645463325252u;
     for (long i = strtol(words[2], NULL, 10); i > 0; i--) {
         log_in();
+        log_in_as_client();
         judge_codes();
     }
     for (int i = 0; i < NUMBERS; i++)

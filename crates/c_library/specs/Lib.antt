@@ -4,4 +4,5 @@ pub mod Numbers
 pub mod Entries
 pub mod Buffers
 pub mod Logins
+pub mod Clients
 pub mod Tokens

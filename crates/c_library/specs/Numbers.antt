@@ -3,7 +3,7 @@ use Rattle.std.specs.Prelude.{ℕ}
 use Rattle.mac_core.specs.declared.mechanism.Mechanism.{Mechanism}
 use Rattle.mac_core.specs.declared.mechanism.Mechanism.TheVariants.{ScramSha1, ScramSha256}
 use Rattle.otp_core.specs.Fault.{otp_fault_number}
-use Rattle.scram_ends.specs.Faults.{first_fault_number, recorded_fault_number}
+use Rattle.scram_ends.specs.Faults.{first_fault_number, recorded_fault_number, client_fault_number}
 use Rattle.scram_ends.specs.Verdict.{Due, accept, refuse}
 use Rattle.scram_ends.specs.declared.verdict.Refusal.{Refusal}
 use Rattle.scram_ends.specs.declared.verdict.Refusal.TheVariants.{InvalidEncoding, ExtensionsNotSupported, OtherNonce, Channel, InvalidProof}
@@ -34,13 +34,14 @@ due_number (refuse refusal) = refusal_number refusal
 abbrev pub fault_number : Fault → ℕ
 fault_number (fault.First first) = first_fault_number first
 fault_number (fault.Recorded recorded) = recorded_fault_number recorded
+fault_number (fault.Client client) = client_fault_number client
 fault_number fault.Name = 63
 fault_number fault.Salt = 64
 fault_number fault.Count = 65
 fault_number fault.KeyLength = 66
 fault_number fault.Mechanism = 90
 fault_number fault.Password = 91
-fault_number fault.ServerNonce = 92
+fault_number fault.NoncePart = 92
 fault_number fault.NoRoom = 93
 fault_number fault.Hash = 94
 fault_number fault.Moment = 95

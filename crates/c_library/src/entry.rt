@@ -105,8 +105,8 @@ pub(crate) fn mechanism_of(number: u32) -> Option<Mechanism>
     }
 }
 
-// The length of the mechanism's digests and keys.
-fn digest_len(mechanism: Mechanism) -> usize
+/// The length of the mechanism's digests and keys.
+pub(crate) fn digest_len(mechanism: Mechanism) -> usize
     ensures { result ≡ digest_len_by mechanism }
 {
     match mechanism {

@@ -4,7 +4,7 @@ ghost use Rattle.c_library.specs.Numbers.{fault_number};
 ghost use Rattle.c_library.specs.declared.fault.Fault.TheVariants.{Otp};
 
 use otp_core::OtpFault;
-use scram_ends::{FirstFault, RecordedFault};
+use scram_ends::{ClientFault, FirstFault, RecordedFault};
 
 /// Why a call does nothing: the first of its demands that its arguments do not meet.
 #[derive(Clone, Copy, Debug, PartialEq, Eq)]
@@ -14,6 +14,9 @@ pub enum Fault {
 
     /// The first two messages open no login of the entry.
     Recorded(RecordedFault),
+
+    /// A client does not answer the challenge, or the server's last message does not show that it has the keys.
+    Client(ClientFault),
 
     /// The name is not 1 to 255 bytes from 0x20 to 0x7E.
     Name,
@@ -33,8 +36,8 @@ pub enum Fault {
     /// The password is not 1 to 1024 bytes from 0x20 to 0x7E.
     Password,
 
-    /// The server's part of the nonce is not 1 to 256 printable characters.
-    ServerNonce,
+    /// A part of the nonce is not 1 to 256 printable characters.
+    NoncePart,
 
     /// The caller's buffer is shorter than the message.
     NoRoom,
@@ -65,13 +68,14 @@ impl Fault {
         match self {
             Fault::First(fault) => u32::from(fault.number()),
             Fault::Recorded(fault) => u32::from(fault.number()),
+            Fault::Client(fault) => u32::from(fault.number()),
             Fault::Name => 63,
             Fault::Salt => 64,
             Fault::Count => 65,
             Fault::KeyLength => 66,
             Fault::Mechanism => 90,
             Fault::Password => 91,
-            Fault::ServerNonce => 92,
+            Fault::NoncePart => 92,
             Fault::NoRoom => 93,
             Fault::Hash => 94,
             Fault::Moment => 95,

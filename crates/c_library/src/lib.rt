@@ -1,4 +1,4 @@
-//! SCRAM logins at a server (RFC 5802, RFC 7677), the keys of a password, and one-time codes (RFC 4226, RFC 6238), for C.
+//! SCRAM logins at a server and at a client (RFC 5802, RFC 7677), the keys of a password, and one-time codes (RFC 4226, RFC 6238), for C.
 //!
 //! Each exported function is one call of `clib/scramotp.h`, which says how a program in C uses it. No call allocates memory, keeps
 //! anything between calls, or fails in a way that its number does not tell: the contract of each says which demands it makes of its
@@ -7,6 +7,7 @@
 #![tactic(auto)]
 
 mod act_as;
+mod client;
 mod decoy;
 mod entry;
 mod fault;

@@ -72,7 +72,7 @@ fn challenge_of(
         Err(fault) => return Err(fault),
     };
     let Some(server_nonce) = NoncePart::new(server_nonce) else {
-        return Err(Fault::ServerNonce);
+        return Err(Fault::NoncePart);
     };
     if let Err(fault) = first_name(client_first) {
         return Err(Fault::First(fault));

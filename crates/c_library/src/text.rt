@@ -6,7 +6,6 @@ ghost use Rattle.scram_text.specs.Limits.{max_nonce_part_len};
 ghost use Rattle.scram_text.specs.Messages.{IsServerFirst};
 ghost use Rattle.scram_text.specs.Written.{server_first_of};
 ghost use Rattle.scram_ends.specs.Verdict.{due_of, due_text};
-ghost use Rattle.c_library.specs.declared.text.TheConstants.{MAX_TEXT_LEN};
 
 use arrayvec::ArrayVec;
 use base64::engine::general_purpose::STANDARD;
@@ -58,10 +57,10 @@ pub(crate) fn report(judged: &Judged) -> Text
     text
 }
 
-// Adds the base64 of up to 64 bytes.
-fn add_base64(text: &mut Text, bytes: &[u8])
+/// Adds the base64 of up to 64 bytes.
+pub(crate) fn add_base64<const N: usize>(text: &mut ArrayVec<u8, N>, bytes: &[u8])
     requires most { length bytes.now ≤ 64 }
-    requires room { length text.old.items + 88 ≤ MAX_TEXT_LEN }
+    requires room { length text.old.items + 88 ≤ N }
     ensures value { text.new.items ≡ text.old.items ++ base64 bytes.now }
     ensures len { length text.new.items ≤ length text.old.items + 88 }
 {
@@ -72,9 +71,9 @@ fn add_base64(text: &mut Text, bytes: &[u8])
     add(text, &buffer[..size]);
 }
 
-// Adds a piece.
-fn add(text: &mut Text, piece: &[u8])
-    requires { length text.old.items + length piece.now ≤ MAX_TEXT_LEN }
+/// Adds a piece.
+pub(crate) fn add<const N: usize>(text: &mut ArrayVec<u8, N>, piece: &[u8])
+    requires { length text.old.items + length piece.now ≤ N }
     ensures value { text.new.items ≡ text.old.items ++ piece.now }
     ensures len { length text.new.items ≡ length text.old.items + length piece.now }
 {

@@ -12,3 +12,9 @@ fault_stays_first (d ∷ rest) more number (inr (met, fault)) = inr (met, fault_
 pub both_are_met : (demands more : List Demand) → AreMet demands → AreMet more → AreMet (demands ++ more)
 both_are_met [] more met also = also
 both_are_met (d ∷ rest) more (met, others) also = (met, both_are_met rest more others also)
+
+-- the first fault of demands that come after others, which are met, is that of all of them
+pub fault_after_met : (demands more : List Demand) (number : ℕ) → AreMet demands → IsFirstFault more number
+    → IsFirstFault (demands ++ more) number
+fault_after_met [] more number met fault = fault
+fault_after_met (d ∷ rest) more number (met, others) fault = inr (met, fault_after_met rest more number others fault)

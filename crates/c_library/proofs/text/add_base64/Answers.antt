@@ -7,7 +7,7 @@ use Rattle.c_library.proofs.text.add_base64.Goals as goal
 
 pub returns-clause-value : goal.returns-clause-value
 unfolding base64
-returns-clause-value c =
+returns-clause-value g c =
     let written : take c.in-Ok.size c.encode_slice.new.output ≡ base64 c.args.bytes.now =
     encoded_prefix (encode_of standard c.args.bytes.now) _ c.encode_slice.new.output
     (encoded_size_of standard (length c.args.bytes.now)) c.in-Ok.size c.encode_slice.result _
