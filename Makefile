@@ -98,7 +98,7 @@ $(foreach it,$(LIBRARIES),$(eval $(call library_rule,$(it))))
 libraries: $(foreach it,$(LIBRARIES),crates/$(it)/out/built)
 
 # The library for C, its header, and what pkg-config reads.
-libscramotp: kit $(foreach it,mac_core otp_core scram_text scram_ends,crates/$(it)/out/built)
+libscramotp: kit crates/sasl_log/out/built
 	@echo "$$(date +%T) c_library" && mkdir -p crates/c_library/out && cd crates/c_library && \
 		{ rt lib --jobs $(JOBS) >out/build.log 2>&1 || { cat out/build.log; exit 1; }; }
 	python3 clib/merge.py $(CLIB_FOLDER) crates/c_library/out/libc_library.a

@@ -4,7 +4,8 @@
 Usage: merge.py FOLDER ARCHIVE ..
 
 They are put into FOLDER, and the second once more as libscramotp.so, for the linker: no link, since rt refuses links in a repository. Both
-have only the symbols scramotp_*. Needs ar, cc, ld and objcopy.
+have only the symbols scramotp_*, and in them what the kit links to each program for its memory, over malloc. Needs rt, ar, cc, ld and
+objcopy.
 """
 import pathlib
 import shutil
@@ -23,10 +24,16 @@ def run(*words: str | pathlib.Path, cwd: pathlib.Path | None = None) -> None:
         sys.exit(f"merge.py: {words[0]} failed")
 
 
+def of_kit() -> pathlib.Path:
+    """The archive of the kit by which a program gets memory."""
+    page = subprocess.run(["rt", "doc"], capture_output=True, text=True, check=True).stdout.strip()
+    return pathlib.Path(page).parent / "c/liblibc_c.a"
+
+
 def merged(archives: list[pathlib.Path], work: pathlib.Path) -> pathlib.Path:
     """One object of all those in the archives, in this empty folder. Of its symbols only scramotp_* can be seen from outside."""
     objects: list[pathlib.Path] = []
-    for number, archive in enumerate(archives):
+    for number, archive in enumerate([*archives, of_kit()]):
         folder = work / str(number)
         folder.mkdir()
         run("ar", "x", archive.resolve(), cwd=folder)

@@ -1,8 +1,8 @@
 /* libscramotp: SCRAM-SHA-1 and SCRAM-SHA-256 at a server and at a client (RFC 5802, RFC 7677), without channel binding; HOTP and TOTP
  * codes (RFC 4226, RFC 6238).
  *
- * Each call is proved to do what is said here. No call allocates memory, keeps a pointer, or shares anything with another call, so any
- * thread may make any call at any time.
+ * Each call is proved to do what is said here. No call keeps a pointer, or shares anything with another call, so any thread may make any
+ * call at any time. Only scramotp_audit allocates memory, by malloc, and it has freed all when it returns.
  *
  * You owe each call pointers to as many bytes as it says, which no other thread writes meanwhile. What a call writes to overlaps none of
  * its other arguments. A pointer is NULL only if the length after it is 0; `at` in scramotp_bytes never is. All else is judged: what a
@@ -29,7 +29,7 @@
  *         put(verdict, verdict_len);
  *     return number == SCRAMOTP_OK ? accepted : refused;
  *
- * examples/login.c and examples/client.c are whole programs.
+ * examples/login.c, examples/client.c and examples/audit.c are whole programs.
  *
  * A client's login. Its struct stays the same in all calls.
  *
@@ -192,6 +192,20 @@ uint32_t scramotp_hotp_sync(const void *secret, size_t secret_len, scramotp_hotp
 uint32_t scramotp_totp(const void *secret, size_t secret_len, scramotp_totp_token *token, uint64_t moment, const void *code,
     size_t code_len);
 
+/* What an audit finds. */
+typedef struct {
+    uint64_t line;          /* the line at fault, from 1, or 0 if none is */
+    uint64_t sessions;      /* of a clean log, how many sessions were offered mechanisms */
+    uint64_t accepted;      /* of a clean log, how many logins were accepted */
+    uint64_t codes_passed;  /* of a clean log, how many codes have passed, or pairs of codes in a row */
+} scramotp_audited;
+
+/* Judges a log (docs/FORMATS.md) by the text of the account book that it began with. The answer is 0 exactly if the log is clean and has at
+ * most 1000000 lines; then the struct has its counts.
+ * Numbers: 60 to 67 of the book, 87 for more lines, and 99, which only a lack of memory should bring; with these the struct is as it was.
+ * Else 80 to 86, why the first line at fault is at fault, and the struct has its number and 0 as each count. */
+uint32_t scramotp_audit(const void *book, size_t book_len, const void *log, size_t log_len, scramotp_audited *audited);
+
 /* The numbers. */
 enum {
     SCRAMOTP_OK = 0,
@@ -222,16 +236,29 @@ enum {
     SCRAMOTP_FAIL = 43,             /* the code is not due, or has passed; the failures are one more */
     SCRAMOTP_LOCKED = 44,           /* the failures have reached `limit`; nothing is changed */
 
+    SCRAMOTP_BAD_TOML = 60,         /* the book is not a TOML document */
+    SCRAMOTP_BAD_FORMAT = 61,       /* its format is not 1 */
+    SCRAMOTP_BAD_KEY = 62,          /* a key in it is missing or unknown, or its value has another type */
     SCRAMOTP_BAD_NAME = 63,         /* the name is not 1 to 255 bytes from space to tilde */
     SCRAMOTP_BAD_SALT = 64,         /* the salt does not have 1 to 64 bytes */
     SCRAMOTP_BAD_COUNT = 65,        /* the count, or the least that a client accepts, is 0 */
     SCRAMOTP_BAD_KEY_LEN = 66,      /* key_len is neither 0 nor the length of the mechanism's keys */
+    SCRAMOTP_BAD_TOKEN = 67,        /* a token in the book is not in its ranges */
+    SCRAMOTP_CUT = 80,              /* the log ends where a line is due, or in a line without its LF */
+    SCRAMOTP_NOT_A_LINE = 81,       /* the line is none of a log of its version */
+    SCRAMOTP_ORDER = 82,            /* no such line is due there */
+    SCRAMOTP_MECHS = 83,            /* it names other mechanisms */
+    SCRAMOTP_CHALLENGE = 84,        /* a challenge is due, and it is another or none */
+    SCRAMOTP_OUTCOME = 85,          /* another outcome of the login is due */
+    SCRAMOTP_REPLY = 86,            /* another reply to the code is due */
+    SCRAMOTP_TOO_MANY_LINES = 87,   /* the log has more than 1000000 lines */
     SCRAMOTP_BAD_MECHANISM = 90,    /* there is no mechanism of this number */
     SCRAMOTP_BAD_PASSWORD = 91,     /* the password is not 1 to 1024 bytes from space to tilde */
     SCRAMOTP_BAD_NONCE = 92,        /* a part of the nonce is not 1 to 256 bytes from `!` to tilde without a comma */
     SCRAMOTP_NO_ROOM = 93,          /* the message, or of a client's the longest, is longer than out_room */
     SCRAMOTP_BAD_HASH = 94,         /* there is no hash function of this number */
-    SCRAMOTP_BAD_MOMENT = 95        /* t0 or the moment is after the year 9999 */
+    SCRAMOTP_BAD_MOMENT = 95,       /* t0 or the moment is after the year 9999 */
+    SCRAMOTP_NO_MEMORY = 99         /* there was no memory for the audit */
 };
 
 /* Whether a number is a refusal, which comes with a message. */

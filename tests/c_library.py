@@ -16,9 +16,10 @@ from collections.abc import Callable, Iterator
 from typing import Any, NamedTuple
 
 import suite
+from audit_cases import cases
 from c_support import ARCHIVES, DECOY_KEY, FUNCTIONS, MADE, WARNINGS, answer_to, base64_of, decoy_salt, library
 from checks import equal, holds
-from expected import DATA, VECTORS, code, rows_of
+from expected import AUDITS, DATA, VECTORS, code, rows_of
 from processes import ran
 from suite import CODES, SEEDS, TOP, each, has, not_tested
 
@@ -199,6 +200,16 @@ def client_example(folder: str) -> None:
                 equal((answer.output, answer.faults, answer.status), (f"{it.first}\n{final}\n", faults, status), said)
 
 
+def audits(folder: str) -> None:
+    """The example of an audit says of each log of data/audits what the table says."""
+    program, log = compiled(EXAMPLES / "audit.c", "audit"), pathlib.Path(folder, "log")
+    for trial, case in each(cases()):
+        with trial:
+            log.write_bytes(case.log)
+            want = case.answer.partition(", due ")[0]
+            equal(ran([program, case.book, log]), (int(not want.startswith("clean")), f"{want}\n", ""), case.shows)
+
+
 def under_valgrind(folder: str) -> None:
     """Valgrind finds no fault in the examples in C."""
     if not has("the examples in C under valgrind", "valgrind"):
@@ -286,6 +297,12 @@ class Client(ctypes.Structure):
 
     _fields_ = [(name, Bytes) for name in ("name", "act_as", "nonce")]
     _fields_ += [(name, ctypes.c_uint32) for name in ("mechanism", "least", "most")]
+
+
+class Audited(ctypes.Structure):
+    """scramotp_audited"""
+
+    _fields_ = [(name, ctypes.c_uint64) for name in ("line", "sessions", "accepted", "codes_passed")]
 
 
 class Hotp(ctypes.Structure):
@@ -483,6 +500,21 @@ def client_faults(folder: str) -> None:
     equal(call("client_check", number(2), signature, b"v=AAAA"), 90)
 
 
+def audited(folder: str) -> None:
+    """A text that is no book is refused by the number of its first fault, and a log of more than a million lines by 87, and the structure
+    stays as it was. A line at fault is named, and the counts are then 0."""
+    book, log = (AUDITS / "keys.toml").read_bytes(), (AUDITS / "sha1.log").read_bytes()
+    many = b"SCRAMLOG 1\n" + b"S MECHS SCRAM-SHA-256 SCRAM-SHA-1\nC ABORT\nS NO :\nE\n" * 250000
+    for trial, (want, text, lines, found) in each([
+        (0, book, log, (0, 1, 1, 0)), (85, book, log.replace(b"p=v0X8", b"p=w0X8"), (6, 0, 0, 0)), (80, book, b"", (1, 0, 0, 0)),
+        (61, b"", b"", (1, 2, 3, 4)), (60, book + b"=", log, (1, 2, 3, 4)), (61, b"format = 2\n", b"", (1, 2, 3, 4)),
+        (87, book, many, (1, 2, 3, 4)),
+    ]):
+        with trial:
+            it = Audited(1, 2, 3, 4)
+            equal((call("audit", text, lines, it), (it.line, it.sessions, it.accepted, it.codes_passed)), (want, found))
+
+
 def codes(folder: str) -> None:
     """The codes of RFC 4226, appendix D, RFC 6238, appendix B, and those that oathtool made pass, each once."""
     secret = bytes.fromhex(SEEDS["sha1"])
@@ -565,15 +597,16 @@ def size_line(row: dict[str, str]) -> str:
 
 
 def interface(folder: str) -> None:
-    """Both libraries have the symbols of data/c_library.csv and no others, need only memcpy, memmove, memset and memcmp, and the header's
-    structures, and what they hold, have the places and sizes of that table. The header has the version of the program."""
+    """Both libraries have the symbols of data/c_library.csv and no others, need only memcpy, memmove, memset and memcmp, and for memory
+    malloc, realloc and free, and the header's structures, and what they hold, have the places and sizes of that table. The header has the
+    version of the program."""
     rows = rows_of(DATA / "c_library.csv")
     symbols = {row["name"] for row in rows if row["kind"] == "call"}
     for words in ["nm", "-D", library() / "libscramotp.so.0"], ["nm", "-g", library() / "libscramotp.a"]:
         found = [line.split()[-2:] for line in ran(words).output.splitlines() if re.search(r" [A-Zw] ", line)]
         equal({name for kind, name in found if kind == "T"}, symbols, words[-1])
         needed = {name.partition("@")[0] for kind, name in found if kind == "U"}
-        equal(needed - {"memcpy", "memmove", "memset", "memcmp"}, set(), words[-1])
+        equal(needed - {"memcpy", "memmove", "memset", "memcmp", "malloc", "realloc", "free"}, set(), words[-1])
         equal({kind for kind, _ in found} - {"T", "U", "w"}, set(), words[-1])
     want = {row["name"]: f"{row['at']} {row['bytes']}".strip() for row in rows if row["kind"] != "call"}
     lines = "".join(size_line(row) for row in rows if row["kind"] != "call")

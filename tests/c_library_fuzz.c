@@ -16,6 +16,9 @@ static const char final_text[] =
     "c=biws,r=rOprNGfwEbeRWgbNEkqO%hvYDpWUa2RaTCAfuxFIlj)hNlF$k0,p=dHzbZapWIk4jUhN+Ute9ytag9zjfMHgsqmmiz7AndVQ=";
 static const uint8_t salt_bytes[16] = {91, 109, 153, 104, 157, 18, 53, 142, 236, 160, 75, 20, 18, 54, 250, 129};
 static const char verdict_text[] = "v=6rriTRBi23WpRR/wtup+mMhUZUn/dB5nLTJRsjl95G4=";
+static const char book_text[] =
+    "format = 1\ndecoy_key = \"000102030405060708090a0b0c0d0e0f101112131415161718191a1b1c1d1e1f\"\ndecoy_count = 4096\n";
+static const char log_text[] = "SCRAMLOG 1\nS MECHS SCRAM-SHA-256 SCRAM-SHA-1\nC ABORT\nS NO :\nE\n";
 static const char secret_text[] = "12345678901234567890";
 
 enum { NUMBERS = 100, LONGEST = 2200 };
@@ -156,6 +159,15 @@ static void log_in_as_client(void)
     free(signature);
 }
 
+static void audit(void)
+{
+    buffer book = changed(book_text), log = changed(log_text);
+    scramotp_audited audited;
+    note(scramotp_audit(book.at, book.len, log.at, log.len, &audited));
+    free(book.at);
+    free(log.at);
+}
+
 static void judge_codes(void)
 {
     buffer secret = changed(secret_text), code = changed("755224"), next = changed("287082");
@@ -179,6 +191,7 @@ int main(int count, char **words)
     for (long i = strtol(words[2], NULL, 10); i > 0; i--) {
         log_in();
         log_in_as_client();
+        audit();
         judge_codes();
     }
     for (int i = 0; i < NUMBERS; i++)

@@ -1,5 +1,6 @@
 -- Lemmas that the proofs of this crate cite.
 pub mod ActAs
+pub mod Audits
 pub mod Challenges
 pub mod Clients
 pub mod Demands

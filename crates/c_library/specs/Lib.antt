@@ -6,3 +6,4 @@ pub mod Buffers
 pub mod Logins
 pub mod Clients
 pub mod Tokens
+pub mod Audits
