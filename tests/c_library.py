@@ -636,7 +636,8 @@ def fuzzed(folder: str) -> None:
     """Random and changed messages in buffers of exactly their length, and NULL where the length is 0: no call reads or writes outside."""
     if program := sanitized("c_library_fuzz.c", "fuzz", "address,undefined"):
         seen = {int(it) for it in ran([program, str(suite.SEED), "20000"]).given().split()}
-        holds(seen >= {0, 20, 24, 26, 28, 30, 31, 32, 34, 36, 42, 43, 44, 63, 64, 65, 66, 90, 91, 92, 93}, "numbers that were seen", sorted(seen))
+        want = {0, 20, 24, 26, 28, 30, 31, 32, 34, 36, 42, 43, 44, 63, 64, 65, 66, 90, 91, 92, 93}
+        holds(seen >= want, "numbers that were seen", sorted(seen))
 
 
 def threads(folder: str) -> None:
