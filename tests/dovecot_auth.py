@@ -418,6 +418,30 @@ def halls_that_fail(folder: str) -> None:
             holds(any("level=error" in line and "answer" in line for line in door.notes("audit")), "the audit is not in the journal")
 
 
+def logs_of_a_killed_door(folder: str) -> None:
+    """A door that begins audits the log of one that was killed, and tells what it finds. It audits no log that has an answer."""
+    door = Door(folder, BOOK)
+    with Server(door) as server:
+        equal(server.logs_in(1, USER), OK.format(1), "a login")
+        door.run.process.send_signal(signal.SIGHUP)
+        until(lambda: door.notes("audit"), "the first log should be audited")
+        equal(server.logs_in(2, USER), OK.format(2), "a login in the next log")
+        server.begin(3, USER)
+        server.challenge(3)
+        door.run.killed()
+    logs = sorted(door.logs.glob("*.log"))
+    for count in 1, 2:
+        door.start()
+        logs = sorted({*logs, *door.logs.glob("*.log")})
+        door.run.process.send_signal(signal.SIGTERM)
+        equal(door.status(), 0, "the status of the next door")
+        equal(len(logs), 2 + count, "the number of logs")
+    answers = ["clean sessions=1 accepted=1 codes=0", "line 12: cut", *["clean sessions=0 accepted=0 codes=0"] * 2]
+    due = [f'event=audit {"level=error " * (it == answers[1])}log={log} answer="{it}"' for log, it in zip(logs, answers)]
+    equal(door.notes("audit"), due, "the audits in the journal")
+    equal([Path(f"{log}.audited").read_text() for log in logs], [f"{it}\n" for it in answers], "the files of the answers")
+
+
 def sockets(folder: str) -> None:
     """A socket that a killed door has left is replaced, and one at which another listens is not. The sockets of the service manager are
     served, also those that the command line does not name, and stay."""

@@ -131,8 +131,8 @@ def logs_of_few_bytes(folder: str) -> None:
 
 
 def files_of_a_log(folder: str) -> None:
-    """Only the owner can read the log, the copy of its book and the file of its clients, whatever the umask is. A client is named by what
-    is known of it, in quotes if it has to be."""
+    """Only the owner can read the log, the copy of its book and the files of its clients and its audit, whatever the umask is. A
+    client is named by what is known of it, in quotes if it has to be."""
     async def one(host: Host) -> None:
         (await host.login({"rip": "2001:db8::7", "name": 'a "b"'})).leave()
 
@@ -141,7 +141,8 @@ def files_of_a_log(folder: str) -> None:
     os.umask(umask)
     equal(audits(folder), [(1, 0)], "the audit")
     files = {path.name[22:]: stat.S_IMODE(path.stat().st_mode) for path in Path(folder, "logs").iterdir()}
-    equal(files, {"Z.log": 0o600, "Z.log.toml": 0o600, "Z.log.clients": 0o600}, "the modes of the files")
+    due = dict.fromkeys(["Z.log", "Z.log.toml", "Z.log.clients", "Z.log.audited"], 0o600)
+    equal(files, due, "the modes of the files")
     [clients] = Path(folder, "logs").glob("*.clients")
     told = clients.read_text().splitlines()[0].split(" ", 3)[3]
     equal(told, r'rip=2001:db8::7 name="a \"b\""', "what the file says of a client")
@@ -431,6 +432,7 @@ def an_audit_that_is_not_run(folder: str) -> None:
     os.environ["PATH"] = path
     due = "[Errno 2] No such file or directory: 'scramotp'"
     equal((notes, Path(folder, "alarms").read_text()), ([due], f"{due}\n"), "what is told")
+    equal([*Path(folder, "logs").glob("*.audited")], [], "the logs that count as audited")
 
 
 async def ctl(folder: str, *words: str, text: str = "") -> tuple[int | None, str]:

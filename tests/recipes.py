@@ -501,7 +501,7 @@ def with_incident(folder: str | Path) -> None:
 
 def audits(folder: str, block: str, logs: list[str], answers: list[str], status: int = 0) -> list[str]:
     """Puts these logs into the folder instead of those there, by the names that the unit gives, each with its book, and all but the newest
-    with a file of its clients. Runs a block, which has to give these answers, in this order. Returns the names of the logs."""
+    with files of its clients and of its audit. Runs a block, which has to give these answers, in this order. Returns the logs' names."""
     for path in Path(folder).glob("hall-*"):
         path.unlink()
     names = [f"hall-{1700000000 + number}.log" for number in range(len(logs))]
@@ -509,7 +509,8 @@ def audits(folder: str, block: str, logs: list[str], answers: list[str], status:
         shutil.copy(AUDITS / f"{log}.log", Path(folder, name))
         shutil.copy(AUDITS / BOOKS_OF_LOGS[log], Path(folder, f"{name}.toml"))
     for name in names[:-1]:
-        Path(folder, f"{name}.clients").touch()
+        for end in "clients", "audited":
+            Path(folder, f"{name}.{end}").touch()
     due = "".join(f"{name}: {answer}\n" for name, answer in zip(names, answers))
     equal(ran(folder, block), (status, due, ""), logs)
     return names
@@ -533,7 +534,7 @@ def removed_logs(folder: str) -> None:
     audits(folder, REMOVE_LOGS, [], [])
     names = audits(folder, REMOVE_LOGS, ["sha1", "twice", "sha256", "sha1"], [CLEAN, AT_FAULT, CLEAN])
     left = sorted(path.name for path in Path(folder).glob("hall-*"))
-    equal(left, [names[1], f"{names[1]}.clients", f"{names[1]}.toml", names[3], f"{names[3]}.toml"], "what is left")
+    equal(left, [names[1], *(f"{names[1]}.{it}" for it in ["audited", "clients", "toml"]), names[3], f"{names[3]}.toml"], "what is left")
 
 
 def who_got_in(folder: str) -> None:

@@ -1,5 +1,7 @@
-"""Audits of the logs that have ended, in the background and one at a time. The operator learns of each answer that is not clean."""
+"""Audits of the logs that have ended, in the background and one at a time. The operator learns of each answer that is not clean. Once the
+answer is told, it is in LOG.audited: a log without that is of a host that was killed, and the next one audits it."""
 import asyncio
+import os
 from asyncio.subprocess import DEVNULL, PIPE, STDOUT
 
 from scramotp_host import journal
@@ -13,6 +15,21 @@ async def answer_of(*words: str) -> tuple[int | None, str]:
         return None, str(fault)
     printed, _ = await run.communicate()
     return run.returncode, printed.decode(errors="replace").strip()
+
+
+def unanswered(folder: str) -> list[str]:
+    """The logs of a folder without LOG.audited, the oldest first."""
+    names = {*os.listdir(folder)}
+    return [os.path.join(folder, it) for it in sorted(names) if it.endswith(".log") and it + ".audited" not in names]
+
+
+def keep(log: str, answer: str) -> None:
+    """Writes LOG.audited, which only its owner can read."""
+    try:
+        with open(log + ".audited", "w", opener=lambda path, flags: os.open(path, flags, 0o600)) as file:
+            file.write(answer + "\n")
+    except OSError as fault:  # the next host audits it again
+        journal.note("audited", level="error", log=log, fault=fault)
 
 
 class Audits:
@@ -35,6 +52,9 @@ class Audits:
         journal.note("audit", level=None if is_clean else "error", log=log, answer=answer)
         if not is_clean and self.alarm:
             await self.warn(log, answer)
+        if status in (0, 1):  # else there was no audit
+            journal.write()  # so that the answer is not only here if the host is killed now
+            keep(log, answer)
 
     async def warn(self, log: str, answer: str) -> None:
         """Runs the operator's program."""

@@ -13,7 +13,7 @@ from datetime import UTC, datetime
 from typing import IO
 
 from scramotp_host import journal
-from scramotp_host.audits import Audits
+from scramotp_host.audits import Audits, unanswered
 from scramotp_host.clients import Client, Clients
 from scramotp_host.hall import HALT, Hall, HallFault, Heard
 from scramotp_host.limits import Limits, PerMinute, origin
@@ -35,7 +35,7 @@ async def readable(file: IO[bytes]) -> None:
 
 class Host:
     """The host of a book, as in `async with Host(book, logs) as host`. LOGS is a folder: each run has the files TIME.log, TIME.log.toml and
-    TIME.log.clients there. `failed` has a HallFault or an OSError once the host can't go on."""
+    TIME.log.clients there, and TIME.log.audited once it is audited. `failed` has a HallFault or an OSError once the host can't go on."""
 
     def __init__(self, book: str, logs: str, limits: Limits = Limits(), alarm: str | None = None) -> None:
         self.book, self.logs, self.limits, self.audits = os.path.abspath(book), os.path.abspath(logs), limits, Audits(alarm)
@@ -54,7 +54,10 @@ class Host:
         self.guesses, self.sent = PerMinute(limits.guesses), PerMinute(limits.kilobytes << 10)
 
     async def __aenter__(self) -> "Host":
-        await self.begin_hall()
+        await self.begin_hall()  # so no other host of this book has a log that goes on
+        for log in unanswered(self.logs):
+            if self.hall and log != self.hall.log:
+                self.audits.begin(log)
         return self
 
     async def __aexit__(self, *_: object) -> None:

@@ -30,7 +30,7 @@ def flags(words: argparse.ArgumentParser) -> None:
     """Adds the words and flags that every door has."""
     words.add_argument("book", metavar="BOOK", help="the account book")
     words.add_argument("socket", metavar="SOCKET", help="the Unix socket at which it listens")
-    words.add_argument("logs", metavar="LOGS", help="the folder of the logs: TIME.log, its book TIME.log.toml, and TIME.log.clients")
+    words.add_argument("logs", metavar="LOGS", help="the folder of the logs, TIME.log, each with files beside it")
     words.add_argument("--mode", type=lambda text: int(text, 8), default=0o660, help="the mode of SOCKET [660]")
     words.add_argument("--group", help="the group of SOCKET")
     words.add_argument("--control", metavar="PATH", help="the socket for scramotp-host ctl [LOGS/control]")
