@@ -24,8 +24,8 @@ from clients import Account, book
 from limits import limit
 from mail_servers import Door, Server, dovecot_auth, free_port, listens, postfix
 from needs import EXIM
-from processes import Answer, ran, until
-from suite import PROGRAM, has
+from processes import Answer, Running, ran, until
+from suite import PROGRAM, TOP, has, program_on_path
 
 # Gives Exim a user that the machine has not.
 WRAPPER = "/usr/lib/x86_64-linux-gnu/libnss_wrapper.so"
@@ -97,9 +97,9 @@ def exim_words() -> tuple[list[str], dict[str, str]]:
 
 
 @contextlib.contextmanager
-def exim(folder: str) -> Iterator[int]:
-    """Exim, with the authenticators of the page. Gives its port."""
-    place, files, port = Path(folder, "exim"), certificate(folder), free_port()
+def exim(folder: str, name: str = "exim", door: str = "auth") -> Iterator[int]:
+    """Exim, in a folder of this name, with the authenticators of the page for this door. Gives its port."""
+    place, files, port = Path(folder, name), certificate(folder), free_port()
     place.mkdir()
     words, variables = exim_words()
     own = f"""keep_environment =
@@ -136,7 +136,7 @@ begin authenticators
     for name in ["key.pem", "cert.pem"]:
         files[name].chmod(0o644)
     place.chmod(0o777)
-    (place / "conf").write_text(own + configuration("Exim", {"/run/scramotp/auth": f"{folder}/auth"}))
+    (place / "conf").write_text(own + configuration("Exim", {"/run/scramotp/auth": f"{folder}/{door}"}))
     with process([*words, "-C", place / "conf", "-bdf"], port, place / "output", env={**os.environ, **variables}):
         yield port
 
@@ -179,15 +179,15 @@ mail_path = ~/mail
 
 
 @contextlib.contextmanager
-def dovecot(folder: str, root: Path | None = None) -> Iterator[tuple[int, int]]:
-    """Dovecot's servers of IMAP and POP3, with the settings of the page. Gives their ports. If a root is given, they are of version 2.4,
-    and see of this machine what is there alone."""
+def dovecot(folder: str, root: Path | None = None, door: str = "auth", more: str = "") -> Iterator[tuple[int, int]]:
+    """Dovecot's servers of IMAP and POP3, with the settings of the page for this door, and more. Gives their ports. If a root is given,
+    they are of version 2.4, and see of this machine what is there alone."""
     place, port, other = Path(folder, "dovecot"), free_port(), free_port()
     certificate(folder)
     place.mkdir()
     place.chmod(0o755)
     inside = as_in(root, folder)
-    page = configuration("Dovecot", {"/run/scramotp/auth": f"{inside}/auth", "/run/scramotp/master": f"{inside}/master"})
+    page = configuration("Dovecot", {"/run/scramotp/auth": f"{inside}/{door}", "/run/scramotp/master": f"{inside}/master"}) + more
     protocols = f"protocols = imap{' pop3' if root or Path(POP3).exists() else ''}\n"
     own = ((OF_2_4 if root else OF_2_3) + OF_DOVECOT).format(f"{inside}/dovecot", port, other)
     (place / "conf").write_text(own + protocols + page)
@@ -542,6 +542,97 @@ def act_as_others(folder: str, port: int, door: Door, log: str, pattern: str, pr
     until(lambda: {*re.findall(pattern, Path(folder, log).read_text())} == {OTHER, LIST}, f"{log} should have the other names alone")
 
 
+# The words at the end of the block that starts two doors: they end once their input does.
+ENDED = "set -- $(jobs -p); read -r; kill $1 $2; wait $1; first=$?; wait $2; exit $((first + $?))"
+# The books of these two doors, each with its only account.
+BOOKS = {"com": (NAME, PASSWORD), "org": (OTHER, "builder")}
+
+
+@contextlib.contextmanager
+def two_doors(folder: str, more: str = "") -> Iterator[None]:
+    """The doors that the page starts over two books, with more flags, in which `@` is the name of the door. At the end each has let its own
+    user in once, by a log that is clean."""
+    os.chmod(folder, 0o711)
+    certificate(folder)
+    Path(folder, "hosts").symlink_to(TOP / "hosts")
+    for book_name, (name, password) in BOOKS.items():
+        words = [PROGRAM, "enrol", "--book", f"{folder}/{book_name}.toml", "--name", name]
+        equal(ran(words, f"{password}\n").status, 0, "enrol")
+    block = filled(PAGE.block("Several books"), {"--mode 660": "--mode 666 --delay 0.05 @"})
+    for it in BOOKS:
+        block = block.replace("@", more.replace("@", it), 1)
+    run = Running(["bash", "-c", block + ENDED], cwd=folder, env=program_on_path(folder))
+    until(lambda: run.process.poll() is not None or all(Path(folder, it).exists() for it in BOOKS), "two doors should serve")
+    yield
+    run.send("\n")
+    status, _, journal = run.end()
+    equal(status, 0, "the statuses of the doors", journal)
+    for book_name, (name, _) in BOOKS.items():
+        [log] = Path(folder, f"{book_name}.logs").glob("*.log")
+        suite.audit_says(f"{log}.toml", log, "clean sessions=3 accepted=1 codes=0")
+        found = re.findall(rf"outcome=(\w+) mechanism=PLAIN name=(\S+) log={re.escape(str(log))} ", journal)
+        equal(found.count(("accepted", name)), 1, "who was let in by", book_name, journal)
+
+
+def asks_two_doors(folder: str, ports: dict[str, int], by: Callable[..., Answer] = by_curl) -> None:
+    """At the port of each book its own user is let in, with the right password alone, and the other one is not."""
+    for at, who in [(at, who) for at in BOOKS for who in BOOKS]:
+        name, password = BOOKS[who]
+        for given in [password, "another"] if at == who else [password]:
+            answer = by(folder, ports[at], "PLAIN", name, given)
+            equal(answer.status == 0, at == who and given == password, "whether the client is let in", at, name, given, answer)
+
+
+def two_books_at_postfix(folder: str) -> None:
+    """Two services of Postfix ask two doors, each over a book of its own."""
+    if has("two books at Postfix", "postfix", "openssl", "curl", root=True):
+        with two_doors(folder):
+            settings = postfix_settings(folder).replace(f"{folder}/auth", f"{folder}/com")
+            port = free_port()
+            second = f"127.0.0.1:{port} inet n - n - - smtpd -o smtpd_sasl_path={folder}/org\n"
+            with postfix(folder, settings, second) as first:
+                asks_two_doors(folder, {"com": first, "org": port})
+
+
+def two_books_at_exim(folder: str) -> None:
+    """Two daemons of Exim ask two doors, each over a book of its own."""
+    if has_exim("two books at Exim", "openssl", "curl"):
+        with two_doors(folder), exim(folder, "one", "com") as com, exim(folder, "two", "org") as org:
+            asks_two_doors(folder, {"com": com, "org": org})
+
+
+def two_books_at_dovecot(folder: str) -> None:
+    """Two services of Dovecot ask two doors, each over a book of its own."""
+    if not has("two books at Dovecot", "dovecot", "/usr/lib/dovecot/imap-login", "openssl", "curl", root=True):
+        return
+    port = free_port()
+    login, mailbox = re.findall(r"`(executable = [^`]*)`", PAGE.sections["Several books"].replace("\n ", ""))
+    second = f"""service imap-login-org {{
+  {login}
+  chroot =
+  protocol = imap
+  type = login
+  service_count = 1
+  user = $default_login_user
+  inet_listener imap-org {{
+    port = {port}
+  }}
+}}
+service imap-org {{
+  {mailbox}
+  protocol = imap
+  service_count = 1
+  unix_listener login/imap-org {{
+    mode = 0666
+  }}
+}}
+""".replace("/run/scramotp", folder)
+    with two_doors(folder, f"--master @.master --userdb 'uid=65534 gid=65534 home={folder}/@.home'"):
+        Path(folder, "master").symlink_to("com.master")
+        with dovecot(folder, door="com", more=second) as (first, _):
+            asks_two_doors(folder, {"com": first, "org": port}, over("imap", by_curl))
+
+
 def others_at_postfix(folder: str) -> None:
     """Users act as others at Postfix."""
     if has("a login as another at Postfix", "postfix", *CLIENTS[:3], root=True):
@@ -563,8 +654,5 @@ def others_at_dovecot(folder: str) -> None:
             act_as_others(folder, port, door, "dovecot/log", "Login: user=<(.*)>, method=PLAIN,", "imap")
         equal(sorted(it.name for it in homes.iterdir()), [OTHER, LIST], "who has a mailbox")
 
-
-TESTS = [logins_at_postfix, logins_at_exim, logins_at_dovecot, logins_at_dovecot_2_4, imap_answers, logins_by_pop3]
-TESTS += [mails_by_imap, others_at_postfix, others_at_exim, others_at_dovecot, differences_from_dovecot]
 
 suite.run_all()

@@ -264,8 +264,8 @@ def listens(port: int) -> bool:
 
 
 @contextlib.contextmanager
-def postfix(folder: str, settings: str) -> Iterator[int]:
-    """Postfix, with these settings, from a folder of its own. Gives its port."""
+def postfix(folder: str, settings: str, services: str = "") -> Iterator[int]:
+    """Postfix, with these settings and more lines for its master.cf, from a folder of its own. Gives its port."""
     place, port = Path(folder, "postfix"), free_port()
     for name in ["", "queue", "data"]:
         (place / name).mkdir(exist_ok=True)
@@ -288,7 +288,7 @@ smtpd_client_connection_count_limit = 0
 smtpd_client_connection_rate_limit = 0
 """
     (place / "main.cf").write_text(own + settings)
-    (place / "master.cf").write_text(f"127.0.0.1:{port} inet n - n - - smtpd\n{MASTER}")
+    (place / "master.cf").write_text(f"127.0.0.1:{port} inet n - n - - smtpd\n{services}{MASTER}")
     equal(ran(["/usr/sbin/postfix", "-c", place, "start"]).status, 0, "the start of Postfix")
     try:
         until(lambda: listens(port), "Postfix should listen")
