@@ -13,7 +13,7 @@ import re
 import smtplib
 import ssl
 import subprocess
-from base64 import b64encode
+from base64 import b64decode, b64encode
 from collections.abc import Callable, Iterator
 from pathlib import Path
 
@@ -459,6 +459,79 @@ def told_by_imap(door: Door, port: int, mechanism: str, messages: list[str], bef
         return str(fault)
     finally:
         client.shutdown()  # without LOGOUT, to which Dovecot does not answer while there is no door
+
+
+@contextlib.contextmanager
+def door_of_few_rounds(folder: str, *flags: str) -> Iterator[Door]:
+    """A door over a book whose account has a count of 4095, less than RFC 5802, section 5.1, asks for. At the end it has let in once."""
+    os.chmod(folder, 0o711)
+    path = Path(folder, "users.toml")
+    equal(ran([PROGRAM, "enrol", "--book", path, "--name", NAME, "--count", "4095"], f"{PASSWORD}\n").status, 0, "enrol")
+    door = Door(folder, path.read_text(), "--plain", "--mode", "666", *flags)
+    yield door
+    door.ends(1)
+
+
+FIRST = f"n,,n={NAME},r=x".encode()
+OF_PASSWORD = f"\0{NAME}\0{PASSWORD}".encode()
+
+
+def has_low_count(challenge: bytes) -> None:
+    """Checks that a client would find the count of a challenge too low."""
+    equal(challenge.decode().split(",")[2], "i=4095", "the count")
+
+
+def gave_up(door: Door, outcome: str) -> None:
+    """Checks what the journal says of a client that has given up."""
+    until(lambda: door.notes("login"), "the journal should have the login")
+    due = f"event=login outcome={outcome} mechanism=SCRAM-SHA-256 name={NAME} "
+    holds(due in door.notes("login")[0], "the journal does not say so", due, door.notes("login"))
+
+
+def gives_up_by_smtp(folder: str, port: int, door: Door, outcome: str) -> None:
+    """A client that finds the count too low gives up by `*`, as RFC 4954, section 4, has it. It can then log in by another mechanism."""
+    with smtplib.SMTP("localhost", port, timeout=20) as client:
+        client.starttls(context=ssl.create_default_context(cafile=f"{folder}/cert.pem"))
+        client.ehlo()
+        has_low_count(b64decode(client.docmd("AUTH", f"SCRAM-SHA-256 {b64encode(FIRST).decode()}")[1]))
+        equal(client.docmd("*")[0], 501, "what the client is told")
+        gave_up(door, outcome)
+        equal(client.docmd("AUTH", f"PLAIN {b64encode(OF_PASSWORD).decode()}")[0], 235, "a login after that")
+
+
+def low_count_at_postfix(folder: str) -> None:
+    """Postfix does not say to the door that a client has given up, so the login takes too long."""
+    if has("a low count at Postfix", "postfix", "openssl", root=True):
+        with door_of_few_rounds(folder, "--patience", "1") as door, postfix(folder, postfix_settings(folder)) as port:
+            gives_up_by_smtp(folder, port, door, "late")
+
+
+def low_count_at_exim(folder: str) -> None:
+    """Exim says at once that a client has given up."""
+    if has_exim("a low count at Exim", "openssl"):
+        with door_of_few_rounds(folder) as door, exim(folder) as port:
+            gives_up_by_smtp(folder, port, door, "abandoned")
+
+
+def low_count_at_dovecot(folder: str) -> None:
+    """Dovecot says at once that a client has given up, which RFC 3501, section 6.2.2, does by `*` too."""
+    if not has("a low count at Dovecot", "dovecot", "/usr/lib/dovecot/imap-login", "openssl", root=True):
+        return
+    flags = ["--master", f"{folder}/master", "--userdb", f"uid=65534 gid=65534 home={folder}/home"]
+    with door_of_few_rounds(folder, *flags) as door, dovecot(folder) as (port, _):
+        Path(folder, "home").mkdir()
+        os.chown(Path(folder, "home"), 65534, 65534)
+        with imaplib.IMAP4("localhost", port, timeout=20) as client:
+            client.starttls(ssl.create_default_context(cafile=f"{folder}/cert.pem"))
+            heard: list[bytes] = []
+            try:
+                client.authenticate("SCRAM-SHA-256", lambda challenge: heard.append(challenge) or [FIRST, None][len(heard) - 1])
+                holds(False, "the login succeeds")
+            except client.error as fault:
+                holds("BAD [b'Authentication aborted" in str(fault), "what the client is told", fault)
+            has_low_count(heard[1])
+            gave_up(door, "abandoned")
+            equal(client.authenticate("PLAIN", lambda _: OF_PASSWORD)[0], "OK", "a login after that")
 
 
 def logins_by_pop3(folder: str) -> None:
