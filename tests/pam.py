@@ -3,7 +3,7 @@
 
 The commands are first run by themselves, as pam_exec runs them, with hostile input among it. Then pamtester asks PAM, with the services
 that docs/DOORS.md shows. The log of the logins is audited. Needs pamtester and libpam-wrapper, which lets PAM read its services from a
-folder. systemd.py has codes at a real sshd.
+folder. systemd.py has both at a real sshd.
 """
 import contextlib
 import os

@@ -6,6 +6,7 @@ installed, and namespaces can be made.
 """
 import base64
 import re
+import shlex
 import shutil
 import time
 from pathlib import Path
@@ -173,6 +174,37 @@ def codes_for_sshd(folder: str) -> None:
             told = machine.does("cat asked; cd /etc/scramotp; tools/list-accounts book.toml")
             due = f"(user@localhost) Password: \nuser: sha1 keys, sha256 keys, totp token ({state} failures)\n"
             equal(told, due, "the prompt, and what the book has")
+
+
+# Serves a book in root's home, and has sshd let in by what PAM says alone.
+SERVED = """install -m 600 /dev/stdin book.toml
+mkdir /run/scramotp
+systemd-run --quiet --unit hall /usr/share/scramotp/serve-hall /root/book.toml /run/scramotp/socket /root/log
+cp /etc/pam.d/sshd sshd
+printf '%s\n' 'KbdInteractiveAuthentication yes' 'AuthenticationMethods keyboard-interactive' >/etc/ssh/sshd_config.d/all.conf
+systemctl restart ssh
+"""
+
+
+def passwords_for_sshd(folder: str) -> None:
+    """With the page's services for PAM, sshd lets in by a password, or by a password and a code in one line, once. The log of the hall is
+    clean, and has these logins."""
+    if not can_boot("passwords for sshd") or not has("passwords for sshd", "sshd", "ssh", "ssh-keygen"):
+        return
+    right = "password of user"
+    tries = [[(right, 0), ("password of use", 255)], [(right + USER.code(0), 0), (right + USER.code(0), 255), (right, 255)]]
+    with booted(folder) as machine:
+        machine.does(BY_KEY)
+        machine.does(SERVED, book([USER]))
+        for service, rows in zip(PAGE.blocks("PAM", 2, ""), tries, strict=True):
+            lines = service.strip().replace("/usr/local/", "/usr/") + "\\\nauth required pam_permit.so"
+            machine.does(f"sed '/^@include common-auth$/c\\\n{lines}' sshd >/etc/pam.d/sshd")
+            for typed_text, status in rows:
+                answer = machine.runs(ASKED.format(shlex.quote(typed_text)))
+                equal((answer.status, answer.output), (status, "" if status else "in\n"), "what ssh says to", typed_text, answer.faults)
+        machine.does("systemctl stop hall")
+        told = machine.does("scramotp audit --book log.toml --log log")
+        equal(told, "clean sessions=4 accepted=3 codes=1\n", "the audit")
 
 
 def logs_of(machine: Machine) -> list[str]:
