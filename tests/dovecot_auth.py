@@ -544,13 +544,24 @@ def units(folder: str) -> None:
 
 
 def manuals(folder: str) -> None:
-    """The manual pages have the options that the commands' help has."""
-    for name, words in ("serve-dovecot-auth", []), ("scramotp-host", ["ctl"]):
-        page = (TOP / "man" / f"{name}.8").read_text()
-        told = {*re.findall(r"^\.It Fl -(\w+)", page, re.M)}
-        command = [TOP / "hosts" / name, *words]
-        helps = ran([*command, "--help"]).output + (ran([*command, "enrol", "--help"]).output if words else "")
-        equal(told, {*re.findall(r"--(\w+)", helps)} - {"help"}, "the options of", name)
+    """The manual pages have the options that the commands' help has, with the same defaults. check-login shows its help, with status 1, for
+    whatever could not be its words."""
+    os.environ["COLUMNS"] = "999"
+    for trial, (name, commands) in each([
+        ("serve-dovecot-auth", [["--help"]]), ("scramotp-host", [["ctl", "--help"], ["ctl", "enrol", "--help"]]),
+        ("check-login", [[], ["--help"], ["a", "b"]]),
+    ]):
+        with trial:
+            answers = [ran([TOP / "hosts" / name, *words]) for words in commands]
+            equal({it.status for it in answers}, {1 if name == "check-login" else 0}, "the statuses of the help of", name)
+            shown = "".join(it.output or it.faults for it in answers)
+            helped = dict(re.findall(r"^  --(\w+)(?: \S+)? +(.*)$", shown, re.M)) or dict.fromkeys(re.findall(r"--(\w+)", shown), "")
+            due = {option: re.findall(r"\[([^]]*?)(?:\.0)?\]$", says) for option, says in helped.items()}
+            page = (TOP / "man" / f"{name}.8").read_text()
+            items = re.findall(r"^\.It Fl -(\w+).*\n((?:(?!\.It|\.El).*\n)*)", page, re.M)
+            told = {option: re.findall(r"(?:: |default is\s(?:\.Pa )?)(\S+?) ?\.$", says.strip()) for option, says in items}
+            equal(told, due, "the options and defaults of", name)
+    del os.environ["COLUMNS"]
 
 
 suite.run_all()

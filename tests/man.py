@@ -18,8 +18,8 @@ from suite import TOP, audit_says, each, has, prints
 PAGES = sorted(Path(TOP, "man").iterdir())
 # The pages that are of no command.
 OTHERS = {"scramotp.1", "scramotp-book.5", "scramotp-log.5", "serve-hall.8"}
-# The pages of hosts. What they would show, docs/DOORS.md has, and dovecot_auth.py runs it.
-OF_HOSTS = {"serve-dovecot-auth.8", "scramotp-host.8"}
+# The pages of hosts. What they would show, docs/DOORS.md has, and dovecot_auth.py and pam.py run it.
+OF_HOSTS = {"serve-dovecot-auth.8", "scramotp-host.8", "check-login.8"}
 # How far the text of a section, and a display in it, are from the margin.
 INDENT, DEEP = " " * 5, " " * 11
 
@@ -80,7 +80,7 @@ def references(folder: str) -> None:
     there = {page.name for page in PAGES}
     for trial, page in each(PAGES):
         with trial:
-            told = re.findall(r"^\.Xr ((?:scramotp|serve)\S*) (\d)", page.read_text(encoding="utf-8"), re.M)
+            told = re.findall(r"^\.Xr ((?:scramotp|serve|check)\S*) (\d)", page.read_text(encoding="utf-8"), re.M)
             equal([it for it in told if ".".join(it) not in there], [], "the pages that are not there, of", page.name)
             holds(told, "the page refers to none", page.name)
 
