@@ -141,9 +141,10 @@ install:
 	install -D -m 644 -t "$(DESTDIR)$(PREFIX)/share/man/man1" man/*.1
 	install -D -m 644 -t "$(DESTDIR)$(PREFIX)/share/man/man5" man/*.5
 	install -D -m 644 -t "$(DESTDIR)$(PREFIX)/share/man/man8" man/*.8
-	install -D -m 644 completions/scramotp.bash "$(DESTDIR)$(PREFIX)/share/bash-completion/completions/scramotp"
-	install -D -m 644 -t "$(DESTDIR)$(PREFIX)/$(ZSH_FOLDER)" completions/_scramotp
-	install -D -m 644 -t "$(DESTDIR)$(PREFIX)/share/fish/vendor_completions.d" completions/scramotp.fish
+	for it in $(notdir $(wildcard completions/*.bash)); do install -D -m 644 "completions/$$it" \
+		"$(DESTDIR)$(PREFIX)/share/bash-completion/completions/$${it%.bash}" || exit 1; done
+	install -D -m 644 -t "$(DESTDIR)$(PREFIX)/$(ZSH_FOLDER)" completions/_*
+	install -D -m 644 -t "$(DESTDIR)$(PREFIX)/share/fish/vendor_completions.d" completions/*.fish
 	@test ! -f "$(CLIB_FOLDER)/libscramotp.a" || $(MAKE) --no-print-directory install_library
 	@test ! -f "$(PLUGIN_FOLDER)/libscramotp-cyrus.so" || $(MAKE) --no-print-directory install_plugin
 

@@ -7,6 +7,7 @@ it is installed, a few are tried in the same way, and fish is asked for all. In 
 help.
 """
 import contextlib
+import itertools
 import json
 import os
 import re
@@ -22,21 +23,24 @@ from processes import ran, until
 from suite import BOOK_OF_USER, PROGRAM, TOP, each, has
 
 FOLDER = TOP / "completions"
-BASH = FOLDER / "scramotp.bash"
 # Calls the function of bash for each line of standard input, and prints in a line what it offers.
 CALLS = r"""
 source "$1"
 while IFS= read -r COMP_LINE; do
     COMP_POINT=${#COMP_LINE} COMP_WORDS=($COMP_LINE) COMP_CWORD=$((${#COMP_WORDS[@]} - 1))
-    _scramotp scramotp "" ""
+    "$2" "${COMP_WORDS[0]}" "${COMP_WORDS[COMP_CWORD]}" "${COMP_WORDS[COMP_CWORD - 1]}"
     printf '%s\n' "${COMPREPLY[*]}"
 done
 """
 # How a shell at a terminal is started, which file it then reads, and what this has. In it `scramotp` notes its words, each followed by a
-# zero byte, and how many they are.
+# zero byte, and how many they are; and so do the doors, which are here with the words that come
+# before their options.
+DOORS = {"serve-dovecot-auth": [""], "scramotp-host": ["ctl", "ctl enrol"]}
 NOTES = "scramotp() {{ printf '%s\\0' \"$#\" \"$@\" >>{noted}; }}\nPS1= HISTFILE=\n"
+NOTES += "".join(f'{name}() {{{{ scramotp "$@"; }}}}\n' for name in DOORS)
+SOURCED = "".join(f"source {{completions}}/{name}.bash\n" for name in ["scramotp", *DOORS])
 SHELLS = {
-    "bash": (["bash", "--noprofile", "--rcfile", ".bashrc", "-i"], ".bashrc", "source {completions}/scramotp.bash\n" + NOTES),
+    "bash": (["bash", "--noprofile", "--rcfile", ".bashrc", "-i"], ".bashrc", SOURCED + NOTES),
     "zsh": (["zsh", "-d", "-i"], ".zshrc", "fpath=({completions} $fpath)\nautoload -Uz compinit && compinit -u -D\n" + NOTES),
 }
 # Readline's keys for the insertion of all completions, and to remove the line.
@@ -48,9 +52,10 @@ HOSTILE = [
 ]
 
 
-def offered(lines: list[str]) -> list[list[str]]:
-    """What the function of bash offers for each of these lines, with the cursor at its end."""
-    answer = ran(["bash", "--norc", "--noprofile", "-c", CALLS, "bash", BASH], "".join(f"{it}\n" for it in lines))
+def offered(lines: list[str], name: str = "scramotp") -> list[list[str]]:
+    """What the function of bash offers for each of these lines of a command, with the cursor at its end."""
+    words_of_bash = ["bash", "--norc", "--noprofile", "-c", CALLS, "bash", FOLDER / f"{name}.bash", f"_{name.replace('-', '_')}"]
+    answer = ran(words_of_bash, "".join(f"{it}\n" for it in lines))
     return [it.split() for it in answer.given("the calls of the function").splitlines()]
 
 
@@ -103,6 +108,42 @@ def options(folder: str) -> None:
     equal({name: says.replace(r"'\''", "'") for name, says in told}, commands, "the commands in zsh")
     told = re.findall(r"^complete -c scramotp -n __scramotp_begins -a ([a-z]+) -d (['\"])(.*)\2$", fish, re.M)
     equal({name: says for name, _, says in told}, commands, "the commands in fish")
+
+
+def options_of_doors(folder: str) -> None:
+    """Each shell is offered the options of a door's help; zsh at once those of all the words that come before options."""
+    for trial, (name, several) in each(DOORS.items()):
+        with trial:
+            helps = [ran([TOP / "hosts" / name, *it.split(), "--help"]).output for it in several]
+            due = [sorted({*re.findall(r"^  (?:-h, )?(--\w+)", it, re.M)}) for it in helps]
+            lines = [f"{name} {it} --" for it in several]
+            equal([sorted(it) for it in offered(lines, name)], due, "the options that bash offers for", lines)
+            in_zsh = re.findall(r"'(--\w+)(?:=|\[)", (FOLDER / f"_{name}").read_text(encoding="utf-8"))
+            equal(sorted(in_zsh), sorted({*itertools.chain(*due)}), "the options in zsh of", name)
+            if has("the options of doors that fish offers", "fish"):
+                command = ["fish", "--no-config", "-c", f"source {FOLDER}/{name}.fish; complete -C $argv[1]"]
+                in_fish = [ran([*command, line]).given(line).splitlines() for line in lines]
+                equal([sorted(it.partition("\t")[0] for it in found) for found in in_fish], due, "the options that fish offers for", lines)
+
+
+def words_of_doors(folder: str) -> None:
+    """In bash and zsh, options and words of a door are completed, and files where they are due."""
+    with_books(folder)
+    completed(folder, "bash", [
+        ("serve-dovecot-auth --mas\tx boo\t", ["--master", "x", "book.toml"]),
+        ("serve-dovecot-auth --control=boo\t", ["--control=book.toml"]),
+        ("serve-dovecot-auth --group roo\tboo\t", ["--group", "root", "book.toml"]),
+        ("scramotp-host ct\t--so\tnon\tunl\tuser", ["ctl", "--socket", "none.toml", "unlock", "user"]),
+        ("scramotp-host ctl enr\t--co\t5 new", ["ctl", "enrol", "--count", "5", "new"]),
+    ])
+    if has("the words of doors that zsh offers", "zsh"):
+        Path(folder, "noted").unlink()
+        shutil.rmtree(Path(folder, "prefix"))
+        completed(folder, "zsh", [
+            ("serve-dovecot-auth --mas\tx boo\t", ["--master=x", "book.toml"]),
+            ("scramotp-host ct\tunl\tuser", ["ctl", "unlock", "user"]),
+            ("scramotp-host ctl enrol new --co\t5", ["ctl", "enrol", "new", "--count=5"]),
+        ])
 
 
 def installed(folder: str | Path) -> dict[str, str]:
@@ -239,8 +280,9 @@ def names_in_fish(folder: str) -> None:
 
 
 def syntax(folder: str) -> None:
-    """Each shell finds its file well-formed."""
-    for trial, (shell, name) in each([("bash", "scramotp.bash"), ("zsh", "_scramotp"), ("fish", "scramotp.fish")]):
+    """Each shell finds its files well-formed."""
+    forms = [("bash", "{}.bash"), ("zsh", "_{}"), ("fish", "{}.fish")]
+    for trial, (shell, name) in each([(shell, form.format(it)) for shell, form in forms for it in ["scramotp", *DOORS]]):
         with trial:
             if has(f"the completions of {shell}", shell):
                 equal(ran([shell, "-n", FOLDER / name]), (0, "", ""), name)

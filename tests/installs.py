@@ -13,9 +13,9 @@ OF_MAKE = {"DESTDIR", "PREFIX", "MAKEFLAGS", "MFLAGS", "MAKELEVEL"}
 ENVIRONMENT = {name: value for name, value in os.environ.items() if name not in OF_MAKE}
 # Where completions go, below the folder that PREFIX names; of zsh, for what is no package of Debian.
 COMPLETIONS = {
-    "scramotp.bash": "share/bash-completion/completions/scramotp",
-    "_scramotp": "share/zsh/site-functions/_scramotp",
-    "scramotp.fish": "share/fish/vendor_completions.d/scramotp.fish",
+    path.name: f"share/{place}/{path.name.removesuffix('.bash')}"
+    for place, form in [("bash-completion/completions", "*.bash"), ("zsh/site-functions", "_*"), ("fish/vendor_completions.d", "*.fish")]
+    for path in (TOP / "completions").glob(form)
 }
 
 
