@@ -10,12 +10,15 @@ import contextlib
 import imaplib
 import os
 import re
+import signal
 import smtplib
 import ssl
 import subprocess
 from base64 import b64decode, b64encode
 from collections.abc import Callable, Iterator
+from concurrent.futures import ThreadPoolExecutor
 from pathlib import Path
+from threading import Barrier
 
 import suite
 from blocks import Page, filled
@@ -355,6 +358,42 @@ def logins_at_postfix(folder: str) -> None:
         with door_in(folder, 24) as door, postfix(folder, postfix_settings(folder)) as port:
             try_clients(folder, port, door, OF_SMTP)
             smtp_answers(folder, port, door, 535, 454)
+
+
+def logs_in(port: int, account: Account, together: Barrier) -> int:
+    """The last answer to a login by SCRAM on a connection of its own, which begins once all others are connected."""
+    with smtplib.SMTP("localhost", port, timeout=limit(60)) as client:
+        client.ehlo()
+        together.wait(limit(60))
+        first = b64encode(account.exchange("fyko", "").first.encode()).decode()
+        status, challenge = client.docmd("AUTH", f"{account.mechanism} {first}")
+        if status != 334:
+            return status
+        it = account.exchange("fyko", b64decode(challenge).decode().split(",")[0].removeprefix("r=fyko"))
+        status, signature = client.docmd(b64encode(it.final.encode()).decode())
+        if status != 334:
+            return status
+        equal(b64decode(signature).decode(), f"v={it.signature}", "the server's last message")
+        return client.docmd("")[0]
+
+
+def many_at_postfix(folder: str) -> None:
+    """Two hundred users log in at Postfix, a hundred at a time, while the log changes twice. None is refused."""
+    if not has("many logins at Postfix", "postfix", "openssl", root=True):
+        return
+    os.chmod(folder, 0o711)
+    user = Account("user", "SCRAM-SHA-256")
+    door = Door(folder, book([user]), "--mode", "666", "--idle", "30", "--grace", "30")
+    settings, together = postfix_settings(folder) + "default_process_limit = 150\n", Barrier(100)
+    with postfix(folder, settings) as port, ThreadPoolExecutor(100) as pool:
+        logins = [pool.submit(logs_in, port, user, together) for _ in range(200)]
+        for count in 40, 120:
+            until(lambda: len(door.notes("login")) >= count or all(it.done() for it in logins), "users should log in")
+            door.run.process.send_signal(signal.SIGHUP)
+        equal([it.result() for it in logins], [235] * 200, "the answers")
+    door.ends(200)
+    equal((door.outcomes(), len(door.audits())), (["accepted"] * 200, 3), "the outcomes, and the number of logs")
+    holds(min(door.audits()) > 0, "a log has no login", door.audits())
 
 
 def has_exim(what: str, *needed: str) -> bool:
