@@ -9,6 +9,7 @@ can't be installed beside Postfix, it unpacks. What is missing is not tested, an
 import contextlib
 import imaplib
 import os
+import poplib
 import re
 import signal
 import smtplib
@@ -340,6 +341,54 @@ def differences_from_dovecot(folder: str) -> None:
             equal(told(other, *lines), theirs, "Dovecot's answer to", what)
 
 
+# In place of a response: the client's last message with a wrong proof.
+WRONG = b"wrong proof"
+
+
+def dialogue(path: Path, account: Account, mechanism: str, settings: str, first: bytes | None, responses: list[bytes]) -> list[str]:
+    """What a service says in a login of IMAP with these settings, whose client sends a first message, if any, and these responses: each
+    line without the login's number. A challenge of SCRAM is answered with the proof that it needs, and the server's last message has to be
+    that of RFC 5802, which is shown as SIGNED."""
+    found, signature, left = [], "none", [*responses]
+    with Server(path) as server:
+        server.auth(1, mechanism, first, f"service=imap\tno-penalty\tsecured{settings}")
+        while (words := server.line().split("\t"))[0] == "CONT":
+            said, response = b64decode(words[2]).decode(), left.pop(0)
+            if said.startswith("r="):
+                it = account.exchange("fyko", said.split(",")[0].removeprefix("r=fyko"))
+                signature, response = it.signature, (it.wrong_final if response == WRONG else it.final).encode()
+            found.append("CONT " + said.split("r=")[0].replace(signature, "SIGNED"))
+            server.respond(1, response)
+    signed = b64encode(f"v={signature}".encode()).decode()
+    return [*found, " ".join([words[0], *words[2:]]).replace(signed, "SIGNED")]
+
+
+def whole_logins_as_dovecot(folder: str) -> None:
+    """Whole logins at the door and at Dovecot's own auth service, which both say the same at each step, up to the end."""
+    if not has("whole logins at Dovecot's auth service", "dovecot", root=True):
+        return
+    user, right, wrong = Account("user", "SCRAM-SHA-256"), b"password of user", b"x"
+    first, ask_both = user.exchange("fyko", "").first.encode(), ["CONT Username:", "CONT Password:"]
+    accepted, refused = ["OK user=user"], ["FAIL user=user"]
+    os.chmod(folder, 0o711)
+    Path(folder, "dovecot").mkdir()
+    with Door(folder, book([user]), "--plain").served() as door, dovecot_auth(f"{folder}/dovecot", user) as other:
+        for mechanism, settings, message, responses, due in [
+            ("SCRAM-SHA-256", "", first, [b"", b""], ["CONT ", "CONT v=SIGNED", *accepted]),
+            ("SCRAM-SHA-256", "", None, [first, b"", b""], ["CONT ", "CONT ", "CONT v=SIGNED", *accepted]),
+            ("SCRAM-SHA-256", "\tfinal-resp-ok", first, [b""], ["CONT ", "OK user=user resp=SIGNED"]),
+            ("SCRAM-SHA-256", "", first, [WRONG], ["CONT ", *refused]),
+            ("SCRAM-SHA-256", "\tfinal-resp-ok", first, [WRONG], ["CONT ", *refused]),
+            ("PLAIN", "", None, [b"\0user\0" + right], ["CONT ", *accepted]),
+            ("PLAIN", "", None, [b"\0user\0" + wrong], ["CONT ", *refused]),
+            ("LOGIN", "", None, [b"user", right], [*ask_both, *accepted]),
+            ("LOGIN", "", None, [b"user", wrong], [*ask_both, *refused]),
+            ("LOGIN", "", b"user", [right], [*ask_both[1:], *accepted]),
+        ]:
+            for path in door.socket, other:
+                equal(dialogue(path, user, mechanism, settings, message, responses), due, "what is said by", path, mechanism, responses)
+
+
 OF_SMTP = [(by_msmtp, SCRAMS + BY_PASSWORD), (by_gsasl, SCRAMS + ["PLAIN"]), (by_curl, BY_PASSWORD), (by_swaks, BY_PASSWORD)]
 CLIENTS = ["openssl", "gsasl", "curl", "msmtp", "swaks"]
 POP3 = "/usr/lib/dovecot/pop3-login"
@@ -452,13 +501,13 @@ def imap_answers(folder: str) -> None:
     if not has("Dovecot's answers", "dovecot", "/usr/lib/dovecot/imap-login", "openssl"):
         return
     wrong, later = "[AUTHENTICATIONFAILED] ", "[UNAVAILABLE] "
-    with door_and_dovecot(folder, "limited") as (door, port):
+    with door_and_dovecot(folder, "limited") as (door, port, _):
         for password, due in ("x", wrong), ("x", wrong), (PASSWORD, later):
             answer = told_by_imap(door, port, "PLAIN", [f"\0{NAME}\0{password}"])
             holds(answer.startswith(due), "another answer is due", due, answer, password)
         door.ends(0)
     for name, does, status in ("killed", Door.kills_hall, 1), ("ended", lambda door: door.run.process.terminate(), 0):
-        with door_and_dovecot(folder, name) as (door, port):
+        with door_and_dovecot(folder, name) as (door, port, _):
             def ends() -> None:
                 does(door)
                 equal(door.status(), status, "the status of the door")
@@ -468,8 +517,9 @@ def imap_answers(folder: str) -> None:
 
 
 @contextlib.contextmanager
-def door_and_dovecot(folder: str, name: str) -> Iterator[tuple[Door, int]]:
-    """A door in a folder of this name, which hears an address no more after two refused logins, and Dovecot over it. Gives its port."""
+def door_and_dovecot(folder: str, name: str) -> Iterator[tuple[Door, int, int]]:
+    """A door in a folder of this name, which hears an address no more after two refused logins, and Dovecot over it. Gives its ports of
+    IMAP and POP3."""
     place = Path(folder, name)
     place.mkdir()
     for it in folder, place:
@@ -477,8 +527,8 @@ def door_and_dovecot(folder: str, name: str) -> Iterator[tuple[Door, int]]:
     userdb = f"uid=65534 gid=65534 home={place}/home"
     flags = ["--plain", "--mode", "666", "--master", f"{place}/master", "--userdb", userdb, "--guesses", "1"]
     door = Door(place, book_of_users(str(place)), *flags)
-    with dovecot(str(place)) as (port, _):
-        yield door, port
+    with dovecot(str(place)) as (imap, pop3):
+        yield door, imap, pop3
 
 
 def told_by_imap(door: Door, port: int, mechanism: str, messages: list[str], before_the_last: Callable[[], None] = lambda: None) -> str:
@@ -578,6 +628,27 @@ def logins_by_pop3(folder: str) -> None:
     if has("Dovecot's POP3", "dovecot", POP3, "openssl", "curl", root=True):
         with mailboxes(folder, 4) as (door, _, _, port):
             try_clients(folder, port, door, [(over("pop3", by_curl), BY_PASSWORD)])
+
+
+def pop3_answers(folder: str) -> None:
+    """What Dovecot tells a client of POP3 of a wrong password, and, while the door does not hear its address, of one that is right: that it
+    should try again later (RFC 3206)."""
+    if not has("Dovecot's answers by POP3", "dovecot", POP3, "openssl", root=True):
+        return
+    with door_and_dovecot(folder, "limited") as (door, _, port):
+        context = ssl.create_default_context(cafile=f"{door.folder}/cert.pem")
+        for password, due in ("x", "-ERR [AUTH] "), ("x", "-ERR [AUTH] "), (PASSWORD, "-ERR [SYS/TEMP] "):
+            client = poplib.POP3("localhost", port, timeout=20)
+            try:
+                client.stls(context)
+                client.user(NAME)
+                client.pass_(password)
+                holds(False, "the login succeeds", password)
+            except poplib.error_proto as fault:
+                holds(fault.args[0].decode().startswith(due), "another answer is due", due, fault, password)
+            finally:
+                client.close()
+        door.ends(0)
 
 
 def mails_by_imap(folder: str) -> None:
