@@ -15,6 +15,7 @@ import signal
 import smtplib
 import ssl
 import subprocess
+import sys
 from base64 import b64decode, b64encode
 from collections.abc import Callable, Iterator
 from concurrent.futures import ThreadPoolExecutor
@@ -27,7 +28,7 @@ from checks import equal, holds
 from clients import Account, book
 from limits import limit
 from mail_servers import Door, Server, dovecot_auth, free_port, listens, postfix
-from needs import EXIM
+from needs import EXIM, OF_EXIM
 from processes import Answer, Running, ran, until
 from suite import PROGRAM, TOP, has, program_on_path
 
@@ -451,7 +452,7 @@ def has_exim(what: str, *needed: str) -> bool:
         return has(what, *needed, root=True)
     if (EXIM / "usr/sbin/exim4").exists():
         return has(what, *needed, WRAPPER, root=True)
-    suite.not_tested(f"{what}, since Exim is neither installed nor unpacked")
+    suite.not_tested(f"{what}, since Exim is neither installed nor unpacked (tests/needs.py --install, or apt-get install {OF_EXIM[0]})")
     return False
 
 
@@ -836,6 +837,14 @@ def others_at_dovecot(folder: str) -> None:
         with mailboxes(folder, 8) as (door, homes, port, _):
             act_as_others(folder, port, door, "dovecot/log", "Login: user=<(.*)>, method=PLAIN,", "imap")
         equal(sorted(it.name for it in homes.iterdir()), [OTHER, LIST], "who has a mailbox")
+
+
+def packages_that_are_missing(folder: str) -> None:
+    """A script that finds no mbsync says what it does not test, and the packages that have it."""
+    answer = ran([sys.executable, "-B", __file__, PROGRAM, "mails_by_imap"], env={**os.environ, "PATH": folder})
+    line = answer.faults.splitlines()[0]
+    holds(line.startswith("doors.py: not tested: mbsync, since "), "it does not say what is not tested", line)
+    holds("mbsync is not installed (apt-get install isync libsasl2-modules)" in line, "it does not say so", line)
 
 
 suite.run_all()

@@ -5,7 +5,7 @@ An edit has the form that `rt help` describes. Those of a crate are the files in
 which begins with a line `edit: NAME`. They change src/ or specs/, and one of a definition in specs/ belongs to no function. The edits in
 tests/planted/ change what no crate has: a tool, the package of hosts/, a man page, completions, the script that
 makes the package for Debian, a page with blocks that a test runs, what is around the library for C, the Makefile, a C file through which
-the program makes calls, or power_model.py.
+the program makes calls, power_model.py, or needs.py.
 """
 import csv
 import re
@@ -21,7 +21,8 @@ NAMES = "edit: "
 # Where in a crate an edit may make changes; and where in the repository one in tests/planted/ may.
 EDITED = ("src/", "specs/")
 EDITED_BY_TESTS = ("tools/", "hosts/", "man/", "completions/", "packaging/", "docs/", "clib/", "plugins/", "Makefile", "tests/refuse_")
-EDITED_BY_TESTS += ("tests/note_files.c", "tests/turn_clock.c", "tests/pass_calls.c", "tests/power_model.py", "tests/c_library_")
+EDITED_BY_TESTS += ("tests/note_files.c", "tests/turn_clock.c", "tests/pass_calls.c", "tests/c_library_", "tests/power_model.py")
+EDITED_BY_TESTS += ("tests/needs.py",)
 
 FUNCTION = re.compile(r"( *)(?:pub(?:\([a-z ]+\))? )?(?:(?:const|unsafe) )*fn (\w+)")
 NAME = re.compile(r"[\w'-]+")

@@ -53,6 +53,12 @@ def lacking(commands: Iterable[str]) -> list[str]:
     return [it for it in commands if not found(it)]
 
 
+def told(command: str) -> str:
+    """That a command or file is nowhere, with the packages of Debian that have it, if they are known here."""
+    packages = (COMMANDS | FOR_PARTS).get(command)
+    return f"{command} is not installed" + (f" (apt-get install {packages})" if packages else "")
+
+
 def install() -> None:
     """Installs the packages of what is lacking, and fails with what apt-get says."""
     packages = sorted({package for it in lacking([*COMMANDS, *FOR_PARTS]) for package in (COMMANDS | FOR_PARTS)[it].split()})

@@ -64,7 +64,7 @@ def not_tested(what: str) -> None:
 def has(what: str, *needed: str, root: bool = False) -> bool:
     """Whether these commands and files are there, and root runs the script if only root can test it. If not, the script says what it does
     not test, and why."""
-    missing = [f"{it} is not installed" for it in needs.lacking(needed)] + ["root does not run this"] * (root and not ROOT)
+    missing = [needs.told(it) for it in needs.lacking(needed)] + ["root does not run this"] * (root and not ROOT)
     if missing:
         not_tested(f"{what}, since {' and '.join(missing)}")
     return not missing
