@@ -96,7 +96,7 @@ def in_ten_minutes(folder: str, title: str, shown: str, before: str, after: str 
     before others that look at what has come of it."""
     with booted(folder) as machine:
         if packages:
-            shutil.copytree(packages, machine.path("/root/packages"))
+            shutil.copytree(packages, machine.path("/srv/packages"))
         machine.does(before)
         output = machine.does(typed("In ten minutes") + typed(title) + after, "correct horse\n")
         holds(shown in output, "the client shows no login", output)
@@ -130,7 +130,7 @@ def exim_in_ten_minutes(folder: str) -> None:
     """What the page types for Exim ends with a login. Its packages are installed in the place of Postfix."""
     if can_boot("Exim in ten minutes") and has("Exim in ten minutes", str(PACKAGES), "swaks"):
         dpkg = "dpkg --no-triggers --force-unsafe-io --force-depends"
-        before = f"{dpkg} --purge postfix; {dpkg} --install packages/*.deb; systemctl start exim4"
+        before = f"{dpkg} --purge postfix; {dpkg} --install /srv/packages/*.deb; systemctl start exim4"
         in_ten_minutes(folder, "Exim", LET_IN, before, packages=PACKAGES)
 
 
