@@ -49,7 +49,7 @@ from functools import cache
 from pathlib import Path
 
 from edit_sources import EDITED, TOP, Edit, Function, Unusable, edits_of, functions_of, read_edit
-from proved import begin, cache_home, keep, linked
+from proved import begin, cache_home, keep, kept, linked
 from rattle import Uses, below, kit, read_uses
 
 # The folders of a crate that a check reads.
@@ -58,6 +58,8 @@ PARTS = ("src", "specs", "proofs")
 FITS_NOTHING = 2
 # More bytes of memory than a check of the largest crate here takes.
 MEMORY = 3 << 30
+# The most edits that one check judges. A failed proof takes it some 13 s of processor time, and reading the libraries about as long.
+MOST = 12
 
 # What a check says of a place: an error in a file, or a goal in src/ that is not proved.
 ERROR = re.compile(r"(?:\./)?(src|specs|proofs)/([^\s:]+):(\d+):\d+: error: (.*)")
@@ -87,10 +89,10 @@ class Outcome:
 
 
 def batches_of(edits: Iterable[Edit]) -> list[list[Edit]]:
-    """Puts edits of different functions together in batches. Edits that share a function are in different batches."""
+    """Puts edits of different functions together in batches of at most MOST. Edits that share a function are in different batches."""
     batches: list[list[Edit]] = []
     for edit in edits:
-        free = (batch for batch in batches if not any(edit.owners & it.owners for it in batch))
+        free = (batch for batch in batches if len(batch) < MOST and not any(edit.owners & it.owners for it in batch))
         batch = next(free, None)
         if batch is None:
             batches.append([edit])
@@ -316,10 +318,10 @@ class Trial:
         own = [it for it in edits if it.name not in by_ci]
         chosen = [it for it in own if self.refusals.is_in_share(it, share)]
         self.count.left = len(own) - len(chosen)
-        kept = {it.name: outcome for it in ([] if anew else chosen) if (outcome := self.refusals.kept(it))}
-        for name, outcome in kept.items():
+        known = {it.name: outcome for it in ([] if anew else chosen) if (outcome := self.refusals.kept(it))}
+        for name, outcome in known.items():
             self.tell(name, outcome, " before, with the same sources")
-        return [it for it in chosen if it.name not in kept]
+        return [it for it in chosen if it.name not in known]
 
     def together(self, batch: list[Edit]) -> dict[str, Outcome]:
         """What `try_together` returns, and how long it took is added up."""
@@ -339,8 +341,8 @@ class Trial:
 
 
 def try_all(trials: list[tuple[Trial, list[Edit]]], jobs: int) -> None:
-    """Tries these edits of each crate, so many checks side by side: batches first, and then each edit by itself that no batch refused. The
-    first check of a crate is alone, since it proves what the others begin with."""
+    """Tries these edits of each crate, so many checks side by side: batches first, and then each edit by itself that no batch refused. If
+    nothing is kept of a crate, its first check is alone, since it proves what the others begin with."""
     with ThreadPoolExecutor(jobs) as pool:
         waiting: dict[Future[dict[str, Outcome]], tuple[Trial, list[Edit]]] = {}
         left: dict[str, list[list[Edit]]] = {}
@@ -351,9 +353,10 @@ def try_all(trials: list[tuple[Trial, list[Edit]]], jobs: int) -> None:
 
         for trial, edits in trials:
             batches = [*batches_of(it for it in edits if it.is_inside), *([it] for it in edits if not it.is_inside)]
-            left[trial.crate] = batches[1:]
-            if batches:
-                submit(trial, batches[0])
+            first = len(batches) if kept(trial.crate).is_dir() else 1
+            left[trial.crate] = batches[first:]
+            for batch in batches[:first]:
+                submit(trial, batch)
         while waiting:
             for done in wait(waiting, return_when=FIRST_COMPLETED).done:
                 trial, batch = waiting.pop(done)
