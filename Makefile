@@ -173,7 +173,7 @@ prove: this_kit
 	$(TIMED) python3 tests/proved.py rt ci
 	@rm -f crates/scramotp/out/built_for
 	python3 tests/edits.py --built --share $(SHARE)
-	cd crates/c_library && rt lib --jobs $(JOBS)
+	python3 tests/archive.py
 	python3 tests/c_library.py $(PROGRAM)
 	python3 tests/cyrus.py $(PROGRAM)
 

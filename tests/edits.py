@@ -50,7 +50,7 @@ from pathlib import Path
 
 from edit_sources import EDITED, TOP, Edit, Function, Unusable, edits_of, functions_of, read_edit
 from proved import begin, cache_home, keep, kept, linked
-from rattle import Uses, below, kit, read_uses
+from rattle import Uses, below, kit, over_built, read_uses, rlib_of
 
 # The folders of a crate that a check reads.
 PARTS = ("src", "specs", "proofs")
@@ -151,12 +151,7 @@ class Room:
             if (self.source / part).is_dir():
                 shutil.copytree(self.source / part, at / part)
         root = next(it for it in ("src/lib.rt", "src/main.rt") if (at / it).is_file())
-        self.words = ["--crate-name", crate, root, "--jobs", "1", "--incremental", "kept"]
-        self.words += ["--antt-project", f"{kit()}/rattle/logic/antt-project.json", "--logic-built", f"{kit()}/logic_built"]
-        for it in ["std", *uses[crate]]:
-            self.words += ["--extern", f"{it}={rlib_of(base, it) if it in uses else f'{kit()}/rlibs/{it}.rlib'}"]
-        for folder in [*[rlib_of(base, it).parent for it in below(crate, uses)], f"{kit()}/rlibs"]:
-            self.words += ["-L", f"dependency={folder}"]
+        self.words = ["--crate-name", crate, root, "--jobs", "1", "--incremental", "kept", *over_built(crate, uses, base)]
 
     def check(self, edits: list[Edit], is_whole: bool = False) -> Report:
         """Checks the crate with only these edits, which change different lines. Checks the functions that they change, or those of the
@@ -402,11 +397,6 @@ def self_test(room: Room, edits: list[Edit]) -> None:
         except Unusable:
             continue
         sys.exit(f"edits.py: its own test fails: an edit applies {what}")
-
-
-def rlib_of(root: Path, name: str) -> Path:
-    """Returns the path of a built library."""
-    return root / "crates" / name / "out/rlib" / f"{name}.rlib"
 
 
 def build(base: Path, names: list[str], uses: Uses, are_built: bool) -> None:

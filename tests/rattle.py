@@ -47,6 +47,21 @@ def below(crate: str, of: Uses) -> list[str]:
     return list(dict.fromkeys(it for low in lower for it in [*below(low, of), low]))
 
 
+def rlib_of(top: Path, name: str) -> Path:
+    """The path of a built library in a repository."""
+    return top / "crates" / name / "out/rlib" / f"{name}.rlib"
+
+
+def over_built(crate: str, of: Uses, top: Path) -> list[str]:
+    """The words by which `rattle` finds the logic, and the libraries below a crate as they are built in a repository."""
+    words = ["--antt-project", f"{kit()}/rattle/logic/antt-project.json", "--logic-built", f"{kit()}/logic_built"]
+    for it in ["std", *of[crate]]:
+        words += ["--extern", f"{it}={rlib_of(top, it) if it in of else f'{kit()}/rlibs/{it}.rlib'}"]
+    for folder in [*[rlib_of(top, it).parent for it in below(crate, of)], f"{kit()}/rlibs"]:
+        words += ["-L", f"dependency={folder}"]
+    return words
+
+
 def test_crates() -> list[str]:
     """The crates that have tests, and not only what others use."""
     return [it for it in read_uses(LISTED) if it.endswith("_tests")]
