@@ -31,6 +31,8 @@ SOURCES = crates.txt HANDLES $(shell find $(wildcard $(addprefix crates/,$(LIBRA
 	\( -name '*.rt' -o -name '*.antt' \) -print)
 # Succeeds where the program is built and newer than its sources.
 IS_FRESH = test -x $(PROGRAM) && test -z "$$(find $(SOURCES) -newer $(PROGRAM))"
+# The tests of hosts, and of doors with real servers.
+DOORS = host.py serve_hall.py dovecot_auth.py doors.py pam.py systemd.py
 # Where make libscramotp leaves the library for C, and make plugin the plug-in for Cyrus SASL.
 CLIB_FOLDER = clib/out
 PLUGIN_FOLDER = plugins/cyrus/out
@@ -43,7 +45,7 @@ TIMED = $(if $(TIMES),python3 tests/timed.py --crates $(TIMES) 'rt ci')
 export TIMES
 
 .PHONY: help run build libraries libscramotp plugin install install_library install_plugin deb setup
-.PHONY: test prove test-all time coverage fuzz bench clean kit this_kit needed FORCE
+.PHONY: test test-doors prove test-all time coverage fuzz bench clean kit this_kit needed FORCE
 
 help:
 	@echo 'make run        prints the keys of the example in RFC 5802, also before anything is built'
@@ -59,6 +61,7 @@ help:
 	@echo 'make deb        makes a package for Debian of the built program, and prints its path'
 	@echo 'make setup      installs what the tests need, on Debian and as root'
 	@echo 'make test       compiles the program and all tests without proofs, and runs them: some 10 minutes'
+	@echo 'make test-doors tests only the hosts, and the doors with real servers and their clients'
 	@echo 'make prove      proves all, and checks that proofs refuse wrong bodies: an hour from nothing;'
 	@echo '                SHARE=1 tries all wrong bodies, instead of about a third'
 	@echo 'make test-all   tests the proved program, with every random choice, and plants all bugs that the scripts have to refuse'
@@ -168,6 +171,9 @@ setup:
 
 test: needed
 	JOBS=$(JOBS) python3 tests/run.py --unproved
+
+test-doors: needed
+	JOBS=$(JOBS) python3 tests/run.py --unproved $(DOORS)
 
 prove: this_kit
 	$(TIMED) python3 tests/proved.py rt ci

@@ -4,7 +4,7 @@
 Usage: needs.py              the status is 1 if something is lacking
        needs.py --install    installs it first, with apt-get, where there is one; only root can
 
-What only a part of one test needs may lack: that test then says what is not tested.
+What only a part of one test needs may lack: the packages are named, and that test then says what is not tested.
 """
 import os
 import pwd
@@ -59,9 +59,14 @@ def told(command: str) -> str:
     return f"{command} is not installed" + (f" (apt-get install {packages})" if packages else "")
 
 
+def packages_of(commands: Iterable[str]) -> list[str]:
+    """Debian's packages of those of the commands that are nowhere."""
+    return sorted({package for it in lacking(commands) for package in (COMMANDS | FOR_PARTS)[it].split()})
+
+
 def install() -> None:
     """Installs the packages of what is lacking, and fails with what apt-get says."""
-    packages = sorted({package for it in lacking([*COMMANDS, *FOR_PARTS]) for package in (COMMANDS | FOR_PARTS)[it].split()})
+    packages = packages_of([*COMMANDS, *FOR_PARTS])
     if not packages and PACKAGES.exists():
         return
     if not shutil.which("apt-get") or os.geteuid():
@@ -107,6 +112,8 @@ def main() -> int:
         faults.append(f"python3 of {'.'.join(map(str, OLDEST_PYTHON))} or newer: apt-get install python3")
     if not has_user():
         faults.append(f"a user {USER}: useradd --system {USER}")
+    if packages := packages_of(FOR_PARTS):
+        print("Parts of some tests need: apt-get install", *packages, file=sys.stderr)
     if faults:
         print("The tests need, and this machine lacks:", *faults, sep="\n  ", file=sys.stderr)
     return 1 if faults else 0
