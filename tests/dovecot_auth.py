@@ -19,12 +19,14 @@ from base64 import b64decode, b64encode
 from concurrent.futures import ThreadPoolExecutor
 from datetime import UTC, datetime, timedelta
 from pathlib import Path
+from threading import Event
 
 import suite
 from blocks import Page, shows
 from checks import equal, holds
 from clients import Account, book
 from expected import proved
+from limits import limit
 from mail_servers import GREETING, SETTINGS, Door, Server, door_of
 from processes import Running, ran, until
 from suite import PROGRAM, TOP, each, has, program_on_path
@@ -74,16 +76,17 @@ def hostile_lines(folder: str) -> None:
                     number += len(good)
                 if text in bad:
                     equal(other.logs_in(number, USER), OK.format(number), "a login meanwhile")
+        until(lambda: len(door.notes("cut_off")) >= len(bad), "the journal should have each server that is cut off")
         equal(len(door.notes("cut_off")), len(bad), "how many are cut off, by the journal")
 
 
 def random_bytes(folder: str) -> None:
-    """Servers that send random bytes, or lines of the protocol with random words, for DURATION seconds hold up nobody, and no log is at
-    fault."""
+    """Servers that send random bytes, or lines of the protocol with random words, for DURATION seconds or more hold up nobody, and no log is
+    at fault."""
     words = ["VERSION", "AUTH", "CONT", "CANCEL", "CPID", "1", "0", "2", "SCRAM-SHA-256", "PLAIN", "secured", "=", "A" * 9000]
     first = [b"n,,n=user,r=x", b"n,a=\xff,n=user,r=x", b"n,,n=us\ner,r=x", b"\nopen x\n", b"\0user\0x", b"\0" * 3]
     words += ["resp=", "resp==", *(f"resp={b64encode(it).decode()}" for it in first)]
-    ends = time.monotonic() + float(os.environ.get("DURATION") or 4)
+    ends, over, sent = time.monotonic() + float(os.environ.get("DURATION") or 4), Event(), [0, 0, 0]
 
     def line(source: random.Random) -> str:
         if source.random() < 0.5:
@@ -95,26 +98,30 @@ def random_bytes(folder: str) -> None:
             return source.randbytes(source.randrange(3000))
         return "".join(f"{it}\n" for it in ["VERSION\t1\t0", *(line(source) for _ in range(source.randrange(1, 6)))]).encode()
 
-    def attack(seed: int) -> int:
-        source, count = random.Random(seed), 0
-        while time.monotonic() < ends:
+    def attack(number: int) -> None:
+        source = random.Random(suite.SEED * 3 + number)
+        while not over.is_set():
             server = Server(door)
             with contextlib.suppress(OSError):
                 server.connection.sendall(text(source))
             server.close()
-            count += 1
-        return count
+            sent[number] += 1
 
     door = Door(folder, BOOK, "--plain", "--guesses", "1000000", "--kilobytes", "1000000")
     accepted = 0
     with ThreadPoolExecutor(3) as pool, Server(door) as good:
-        attacks = pool.map(attack, [suite.SEED * 3 + it for it in range(3)])
-        while time.monotonic() < ends:
-            accepted += 1
-            began = time.monotonic()
-            equal(good.logs_in(accepted, USER), OK.format(accepted), "a login meanwhile")
-            holds(time.monotonic() < began + 5, "a login takes long meanwhile, in seconds", time.monotonic() - began)
-        holds(sum(attacks) > 50 and accepted > 5, "there was no attack", accepted)
+        attacks = [pool.submit(attack, it) for it in range(3)]
+        try:
+            while time.monotonic() < ends or (min(sent) < 20 or accepted < 6) and time.monotonic() < ends + limit(60):
+                accepted += 1
+                began = time.monotonic()
+                equal(good.logs_in(accepted, USER), OK.format(accepted), "a login meanwhile")
+                holds(time.monotonic() < began + limit(5), "a login takes long meanwhile, in seconds", time.monotonic() - began)
+        finally:
+            over.set()
+        holds(min(sent) >= 20 and accepted > 5, "there was no attack", sent, accepted)
+        for it in attacks:
+            it.result()
     door.ends(accepted)
 
 
