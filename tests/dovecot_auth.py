@@ -81,8 +81,8 @@ def hostile_lines(folder: str) -> None:
 
 
 def random_bytes(folder: str) -> None:
-    """Servers that send random bytes, or lines of the protocol with random words, for DURATION seconds or more hold up nobody, and no log is
-    at fault."""
+    """Servers that send random bytes, or lines of the protocol with random words, for at least DURATION seconds, hold up nobody, and no log
+    is at fault."""
     words = ["VERSION", "AUTH", "CONT", "CANCEL", "CPID", "1", "0", "2", "SCRAM-SHA-256", "PLAIN", "secured", "=", "A" * 9000]
     first = [b"n,,n=user,r=x", b"n,a=\xff,n=user,r=x", b"n,,n=us\ner,r=x", b"\nopen x\n", b"\0user\0x", b"\0" * 3]
     words += ["resp=", "resp==", *(f"resp={b64encode(it).decode()}" for it in first)]
