@@ -415,7 +415,8 @@ def halls_that_fail(folder: str) -> None:
                 server.begin(2, USER)
                 server.challenge(2)
                 does(door)
-                server.respond(2, b"c=biws,r=x,p=x")
+                with contextlib.suppress(BrokenPipeError):  # cut off already
+                    server.respond(2, b"c=biws,r=x,p=x")
                 holds(server.is_cut_off(), "the connection goes on")
             equal(door.status(), 1, "the status of the door")
             equal(door.notes("end"), [f"event=end level=error fault={fault}"], "the journal")
