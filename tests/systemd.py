@@ -163,7 +163,11 @@ def codes_for_sshd(folder: str) -> None:
     with booted(folder) as machine:
         equal(machine.does(BY_KEY), "in\n", "a login by the key alone")
         machine.does(typed("Codes for sshd"))
-        equal(machine.runs(ASKED.format("000000")).status, 255, "what ssh says to a user without a token")
+        # a reload only begins it
+        until(lambda: machine.does("journalctl --unit ssh").count("Server listening on 0.0.0.0") == 2, "sshd should listen again")
+        refused = machine.runs(ASKED.format("000000"))
+        said = (refused.status, "Permission denied" in refused.faults)
+        equal(said, (255, True), "whether ssh is refused for a user without a token", refused.faults)
         made = [text for title, _, text in Page("docs/OPERATING.md").all if title == "Give a user one-time codes"][0]
         secret = machine.does("set +e; cd /etc/scramotp\n" + made.replace("name=user@example.org", "name=user"))
         now = int(time.time()) // 30
