@@ -485,11 +485,17 @@ def sockets(folder: str) -> None:
 
 def new_log_each_day(folder: str) -> None:
     """A new log begins at the time of day that is asked for, in UTC."""
-    moment = (datetime.now(UTC) + timedelta(seconds=3)).strftime("%H:%M:%S")
-    with door_of(folder, BOOK, 0, "--daily", moment) as door:
-        until(lambda: len([*door.logs.glob("*.log")]) == 2, "a new log should begin")
-        began = [path.name[9:15] for path in sorted(door.logs.glob("*.log"))]
-        holds(began[1] >= moment.replace(":", ""), "the new log begins early", began, moment)
+    for seconds in 3, 12, 48:  # on a busy machine a door may begin too late
+        moment = datetime.now(UTC) + timedelta(seconds=seconds)
+        place = Path(folder, str(seconds))
+        place.mkdir()
+        with door_of(place, BOOK, 0, "--daily", f"{moment:%H:%M:%S}") as door:
+            if datetime.now(UTC) < moment - timedelta(seconds=1):
+                until(lambda: len([*door.logs.glob("*.log")]) == 2, "a new log should begin")
+                began = [path.name[9:15] for path in sorted(door.logs.glob("*.log"))]
+                holds(began[1] >= f"{moment:%H%M%S}", "the new log begins early", began, moment)
+                return
+    holds(False, "no door has begun in time")
 
 
 PAGE = Page("docs/DOORS.md")
