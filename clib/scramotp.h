@@ -29,7 +29,7 @@
  *         put(verdict, verdict_len);
  *     return number == SCRAMOTP_OK ? accepted : refused;
  *
- * examples/login.c, examples/client.c and examples/audit.c are whole programs.
+ * examples/login.c, examples/client.c, examples/verifier.c and examples/audit.c are whole programs.
  *
  * A client's login. Its struct stays the same in all calls.
  *
@@ -102,6 +102,23 @@ typedef struct {
  * Numbers: 90 mechanism, 65 count, 64 salt, 91 password; the first of these that applies. */
 uint32_t scramotp_keys(uint32_t mechanism, uint32_t count, const void *salt, size_t salt_len, const void *password, size_t password_len,
     scramotp_entry *entry);
+
+/* How PostgreSQL and Dovecot spell an entry with keys, for instance SCRAM-SHA-256$4096:SALT$STORED:SERVER (RFC 5803) and
+ * {SCRAM-SHA-256}4096,SALT,STORED,SERVER. SALT, STORED and SERVER are in base64. PostgreSQL has no keys for SCRAM-SHA-1. */
+enum { SCRAMOTP_POSTGRES = 1, SCRAMOTP_DOVECOT = 2 };
+
+/* The room that the longest verifier needs. */
+enum { SCRAMOTP_VERIFIER_ROOM = 204 };
+
+/* Reads a verifier of either spelling and mechanism, without an LF, into an entry. The answer is 0 exactly if the text is one: the count is
+ * in decimal without a leading 0, the base64 is padded, the salt has 1 to 64 bytes, the keys have as many as the mechanism's, and nothing
+ * follows.
+ * Numbers: 96 text. */
+uint32_t scramotp_read_verifier(const void *text, size_t text_len, scramotp_entry *entry);
+
+/* Writes an entry with keys as a verifier, without an LF or a NUL, in the spelling SCRAMOTP_POSTGRES or SCRAMOTP_DOVECOT.
+ * Numbers: 90 mechanism, 97 spelling, 65, 64, 66 of the entry, also 66 if it is a decoy, 93 room; the first of these that applies. */
+uint32_t scramotp_write_verifier(const scramotp_entry *entry, uint32_t spelling, void *out, size_t out_room, size_t *out_len);
 
 /* Makes the decoy of a name that has no account, so that no message tells: a salt of 16 bytes that follows from the key, the mechanism
  * and the name. The key is 32 random bytes that stay the same and secret. Take the count and the length of the salt that your accounts
@@ -242,7 +259,7 @@ enum {
     SCRAMOTP_BAD_NAME = 63,         /* the name is not 1 to 255 bytes from space to tilde */
     SCRAMOTP_BAD_SALT = 64,         /* the salt does not have 1 to 64 bytes */
     SCRAMOTP_BAD_COUNT = 65,        /* the count, or the least that a client accepts, is 0 */
-    SCRAMOTP_BAD_KEY_LEN = 66,      /* key_len is neither 0 nor the length of the mechanism's keys */
+    SCRAMOTP_BAD_KEY_LEN = 66,      /* key_len is neither 0 nor the length of the mechanism's keys, or keys are needed and it is 0 */
     SCRAMOTP_BAD_TOKEN = 67,        /* a token in the book is not in its ranges */
     SCRAMOTP_CUT = 80,              /* the log ends where a line is due, or in a line without its LF */
     SCRAMOTP_NOT_A_LINE = 81,       /* the line is none of a log of its version */
@@ -258,6 +275,8 @@ enum {
     SCRAMOTP_NO_ROOM = 93,          /* the message, or of a client's the longest, is longer than out_room */
     SCRAMOTP_BAD_HASH = 94,         /* there is no hash function of this number */
     SCRAMOTP_BAD_MOMENT = 95,       /* t0 or the moment is after the year 9999 */
+    SCRAMOTP_BAD_VERIFIER = 96,     /* the text is no verifier */
+    SCRAMOTP_BAD_SPELLING = 97,     /* there is no spelling of this number */
     SCRAMOTP_NO_MEMORY = 99         /* there was no memory for the audit */
 };
 

@@ -5,6 +5,7 @@ PROGRAM is not run. The environment's CLIB names the folder with the archives of
 in crates/c_library/out. Each example is compiled with warnings as errors, and logs users in with messages that are in RFC 5802 and RFC
 7677, or were made here with Python's hmac and hashlib. Needs cc; c++, rustc and go for the examples in their languages.
 """
+import base64
 import ctypes
 import functools
 import os
@@ -19,7 +20,7 @@ import suite
 from audit_cases import cases
 from c_support import ARCHIVES, DECOY_KEY, FUNCTIONS, MADE, WARNINGS, answer_to, base64_of, decoy_salt, library
 from checks import equal, holds
-from expected import AUDITS, DATA, VECTORS, code, rows_of
+from expected import AUDITS, DATA, VECTORS, code, keys_of, rows_of
 from processes import ran
 from suite import CODES, SEEDS, TOP, each, has, not_tested
 
@@ -200,6 +201,33 @@ def client_example(folder: str) -> None:
                 equal((answer.output, answer.faults, answer.status), (f"{it.first}\n{final}\n", faults, status), said)
 
 
+# Verifiers that PostgreSQL and Dovecot made, of passwords.
+VERIFIERS = rows_of(VECTORS / "verifiers.csv")
+
+
+def both_spellings(verifier: str) -> list[str]:
+    """A verifier as PostgreSQL spells it, and as Dovecot does."""
+    mechanism, *fields = re.match(r"{?(SCRAM-SHA-\d+)[$}](\d+)[:,]([^$,]+)[$,]([^:,]+)[:,](.+)$", verifier).groups()
+    return [mechanism + "${}:{}${}:{}".format(*fields), f"{{{mechanism}}}" + ",".join(fields)]
+
+
+def verifier_example(folder: str) -> None:
+    """The example of verifiers spells those that PostgreSQL and Dovecot made as both do, and Dovecot takes what it spells as the password
+    that it is of, and no other."""
+    program = compiled(EXAMPLES / "verifier.c", "verifier")
+    given = [row["verifier"] for row in VERIFIERS]
+    spelled = [both_spellings(it) for it in given]
+    for of, want in zip(["postgres", "dovecot"], zip(*spelled)):
+        equal(ran([program, of], "".join(f"{it}\n" for it in given)), (0, "".join(f"{it}\n" for it in want), ""), of)
+    equal(ran([program, "dovecot"], f"\n{given[0]},\n{given[0]}\n"), (1, f"{spelled[0][1]}\n", "refused: 96\nrefused: 96\n"))
+    if has("what Dovecot says of verifiers that the library for C has spelled", "dovecot"):
+        for trial, row in each([it for it in VERIFIERS if it["source"].startswith("PostgreSQL")]):
+            with trial:
+                made = ran([program, "dovecot"], f"{row['verifier']}\n").given().strip()
+                for password, status in [(row["password"], 0), (row["password"] + "s", 75)]:
+                    equal(ran(["doveadm", "pw", "-t", made, "-p", password]).status, status, password)
+
+
 def audits(folder: str) -> None:
     """The example of an audit says of each log of data/audits what the table says."""
     program, log = compiled(EXAMPLES / "audit.c", "audit"), pathlib.Path(folder, "log")
@@ -369,6 +397,58 @@ def keys(folder: str) -> None:
             before = bytes(entry)
             equal(call("keys", number(mechanism), number(count), salt, password, entry), want)
             equal(bytes(entry), before)
+
+
+def no_verifiers(verifier: str) -> Iterator[str]:
+    """Texts that are no verifiers, but nearly this one, which PostgreSQL made."""
+    dovecot = both_spellings(verifier)[1]
+    _, count, salt, stored, server = re.split("[$:]", verifier)
+    short, long, sha1 = (base64_of(bytes(size)) for size in (31, 33, 20))
+    yield from ["", "md5c0ffee", "SCRAM-SHA-256$", "{SCRAM-SHA-256}", verifier[1:], f" {verifier}", dovecot[1:], dovecot.replace("}", "$")]
+    for text in verifier, dovecot:
+        yield from [text + end for end in ("\n", "\0", "=", "A", ":", ",", "$", f":{server}", f",{server}")]
+        yield from [text[:-1], text.replace("SCRAM", "scram"), text.replace("256", "1", 1), text.replace("256", "512", 1)]
+        yield from [text.replace(count, wrong, 1) for wrong in ("", "0", "04096", "+4096", "4096 ", "4_096", "-1", "4294967296", "x")]
+        salts = ["", "=", salt[:-1], salt[:-2], f"{salt}=", f"{salt[:-3]}x==", f"{salt}\n", base64_of(bytes(65))]
+        yield from [text.replace(salt, wrong, 1) for wrong in salts]
+        yield from [text.replace(of, wrong, 1) for of in (stored, server) for wrong in ("", of[:-1], short, long, sha1, of[:-2] + "B=")]
+    yield from [verifier.replace("$", ":"), verifier.replace(":", "$"), verifier.replace(":", ","), dovecot.replace(",", ":")]
+
+
+def verifiers(folder: str) -> None:
+    """Verifiers that PostgreSQL and Dovecot made are read as the keys of their passwords, and written as they were. Whatever is no verifier
+    is refused by 96, and what is no entry with keys, no spelling or no room by the first of their numbers, and nothing is written."""
+    for trial, row in each(VERIFIERS):
+        with trial:
+            entry, text = entry_of(1, 1, b"salt", b"pencil"), row["verifier"]
+            equal(call("read_verifier", text.encode(), entry), 0)
+            salt, count = base64.b64decode(re.split("[:,]", text)[1].split("$")[0]), int(re.search(r"[$}](\d+)", text)[1])
+            function, mechanism = FUNCTIONS[row["mechanism"]]
+            keys = keys_of(function, row["password"].encode(), salt, count)
+            equal([it.hex() for it in entry_bytes(entry)], [salt.hex(), *keys])
+            equal((entry.mechanism, entry.count), (mechanism, count))
+            for spelling, want in enumerate(both_spellings(text), 1):
+                of = want.encode()
+                for room in [len(of), len(of) + 1, 500]:
+                    equal(written("write_verifier", room, entry, number(spelling)), (0, of.ljust(room + 9, b"X"), len(of)))
+                for room in [0, 1, len(of) - 1]:
+                    equal(written("write_verifier", room, entry, number(spelling)), (93, b"X" * (room + 9), 777))
+    for trial, text in each(no_verifiers(VERIFIERS[0]["verifier"])):
+        with trial:
+            entry = entry_of(1, 1, b"salt", b"pencil")
+            before = bytes(entry)
+            equal((call("read_verifier", text.encode(), entry), bytes(entry)), (96, before), text)
+    entry = entry_of(256, 4096, b"salt", b"pencil")
+    for trial, (want, spelling, fields) in each([
+        (90, 3, {"mechanism": 0, "count": 0}), (97, 0, {"count": 0}), (97, 3, {}), (65, 1, {"count": 0, "salt_len": 0}),
+        (64, 1, {"salt_len": 0, "key_len": 0}), (64, 2, {"salt_len": 65}), (66, 1, {"key_len": 20}), (66, 2, {"key_len": 0}),
+    ]):
+        with trial:
+            wrong = changed_entry(entry, **fields)
+            room = 0 if want < 90 else 500
+            equal(written("write_verifier", room, wrong, number(spelling)), (want, b"X" * (room + 9), 777))
+    longest = changed_entry(entry, count=2**32 - 1, salt_len=64)
+    equal(written("write_verifier", 204, longest, number(2))[::2], (0, 204))
 
 
 def decoys(folder: str) -> None:
@@ -636,7 +716,7 @@ def fuzzed(folder: str) -> None:
     """Random and changed messages in buffers of exactly their length, and NULL where the length is 0: no call reads or writes outside."""
     if program := sanitized("c_library_fuzz.c", "fuzz", "address,undefined"):
         seen = {int(it) for it in ran([program, str(suite.SEED), "20000"]).given().split()}
-        want = {0, 20, 24, 26, 28, 30, 31, 32, 34, 36, 42, 43, 44, 63, 64, 65, 66, 90, 91, 92, 93}
+        want = {0, 20, 24, 26, 28, 30, 31, 32, 34, 36, 42, 43, 44, 63, 64, 65, 66, 90, 91, 92, 93, 96, 97}
         holds(seen >= want, "numbers that were seen", sorted(seen))
 
 

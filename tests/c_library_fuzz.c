@@ -19,6 +19,10 @@ static const char verdict_text[] = "v=6rriTRBi23WpRR/wtup+mMhUZUn/dB5nLTJRsjl95G
 static const char book_text[] =
     "format = 1\ndecoy_key = \"000102030405060708090a0b0c0d0e0f101112131415161718191a1b1c1d1e1f\"\ndecoy_count = 4096\n";
 static const char log_text[] = "SCRAMLOG 1\nS MECHS SCRAM-SHA-256 SCRAM-SHA-1\nC ABORT\nS NO :\nE\n";
+static const char postgres_text[] =
+    "SCRAM-SHA-256$4096:W22ZaJ0SNY7soEsUEjb6gQ==$"
+    "WG5d8oPm3OtcPnkdi4Uo7BkeZkBFzpcXkuLmtbsT4qY=:wfPLwcE6nTWhTAmQ7tl2KeoiWGPlZqQxSrmfPwDl2dU=";
+static const char dovecot_text[] = "{SCRAM-SHA-1}4096,QSXCR+Q6sek8bf92,6dlGYMOdZcOPutkcNY8U2g7vK9Y=,D+CSWLOshSulAsxiupA+qs2/fTE=";
 static const char secret_text[] = "12345678901234567890";
 
 enum { NUMBERS = 100, LONGEST = 2200 };
@@ -159,6 +163,19 @@ static void log_in_as_client(void)
     free(signature);
 }
 
+static void spell(void)
+{
+    scramotp_entry entry = entry_of();
+    buffer text = changed(below(2) ? postgres_text : dovecot_text), out = {NULL, below(3) ? SCRAMOTP_VERIFIER_ROOM : below(150)};
+    size_t len = 0;
+    out.at = malloc(out.len);
+    note(scramotp_read_verifier(text.at, text.len, &entry));
+    if (note(scramotp_write_verifier(&entry, (uint32_t)below(4), out.at, out.len, &len)) == 0 && len > out.len)
+        abort();
+    free(text.at);
+    free(out.at);
+}
+
 static void audit(void)
 {
     buffer book = changed(book_text), log = changed(log_text);
@@ -191,6 +208,7 @@ int main(int count, char **words)
     for (long i = strtol(words[2], NULL, 10); i > 0; i--) {
         log_in();
         log_in_as_client();
+        spell();
         audit();
         judge_codes();
     }

@@ -19,7 +19,7 @@ DATA = pathlib.Path(__file__).resolve().parent / "data"
 AUDITS = DATA / "audits"
 # Books, and the table cases.csv of their faults.
 BOOK_FAULTS = DATA / "book_faults"
-# keys.csv and codes.csv: keys and codes that other software made.
+# keys.csv, codes.csv and verifiers.csv: keys, codes and verifiers that other software made.
 VECTORS = DATA / "vectors"
 
 # The login of RFC 5802's example, section 5, as lines without LF; and those of its lines from the mechanisms to the acceptance.

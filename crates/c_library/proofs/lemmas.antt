@@ -5,3 +5,4 @@ pub mod Challenges
 pub mod Clients
 pub mod Demands
 pub mod Verdicts
+pub mod Verifiers

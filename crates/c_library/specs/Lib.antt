@@ -6,4 +6,6 @@ pub mod Buffers
 pub mod Logins
 pub mod Clients
 pub mod Tokens
+pub mod Verifiers
 pub mod Audits
+pub mod inner

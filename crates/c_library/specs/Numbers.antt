@@ -45,4 +45,6 @@ fault_number fault.NoncePart = 92
 fault_number fault.NoRoom = 93
 fault_number fault.Hash = 94
 fault_number fault.Moment = 95
+fault_number fault.Verifier = 96
+fault_number fault.Spelling = 97
 fault_number (fault.Otp otp) = otp_fault_number otp

@@ -48,6 +48,12 @@ pub enum Fault {
     /// A moment is after the year 9999.
     Moment,
 
+    /// The text is no verifier.
+    Verifier,
+
+    /// There is no spelling of this number.
+    Spelling,
+
     /// The secret, the number of digits or a setting of a token is refused.
     Otp(OtpFault),
 }
@@ -79,6 +85,8 @@ impl Fault {
             Fault::NoRoom => 93,
             Fault::Hash => 94,
             Fault::Moment => 95,
+            Fault::Verifier => 96,
+            Fault::Spelling => 97,
             Fault::Otp(fault) => u32::from(fault.number()),
         }
     }

@@ -20,3 +20,4 @@ mod put;
 mod server;
 mod text;
 mod totp;
+mod verifier;
