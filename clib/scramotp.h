@@ -29,7 +29,7 @@
  *         put(verdict, verdict_len);
  *     return number == SCRAMOTP_OK ? accepted : refused;
  *
- * examples/login.c, examples/client.c, examples/verifier.c and examples/audit.c are whole programs.
+ * examples/login.c, examples/client.c, examples/logged.c, examples/verifier.c and examples/audit.c are whole programs.
  *
  * A client's login. Its struct stays the same in all calls.
  *
@@ -209,6 +209,61 @@ uint32_t scramotp_hotp_sync(const void *secret, size_t secret_len, scramotp_hotp
 uint32_t scramotp_totp(const void *secret, size_t secret_len, scramotp_totp_token *token, uint64_t moment, const void *code,
     size_t code_len);
 
+/* A log that others can audit, by scramotp_audit or by the program, begins with SCRAMOTP_LOG_BEGIN. After that come the lines of its
+ * sessions: SCRAMOTP_S_MECHS as a client comes, then what both say, in turn, and SCRAMOTP_E. Write a line before you say it.
+ *
+ *     1 S MECHS SCRAM-SHA-256 SCRAM-SHA-1
+ *     1 C AUTH SCRAM-SHA-256 :n,,n=user,r=rOprNGfwEbeRWgbNEkqO
+ *     1 S CONT :r=..,s=..,i=4096       the challenge
+ *     1 C RESP :c=biws,r=..,p=..
+ *     1 S OK :v=..                     or S NO with the message of a refusal, and then E
+ *     1 C CODE 755224                  as often as the client likes
+ *     1 S PASS 1764460800 0
+ *     1 C GONE
+ *     1 E
+ */
+#define SCRAMOTP_LOG_BEGIN "SCRAMLOG 2\n"
+
+/* The room that the longest line needs. */
+enum { SCRAMOTP_LINE_ROOM = 6223 };
+
+/* The kinds of lines, by their words: S is said by the server, and C by the client. */
+enum {
+    SCRAMOTP_S_MECHS = 1,   /* the offer of both mechanisms, which begins a session */
+    SCRAMOTP_S_CONT = 2,    /* text: the challenge, or empty to ask for the first message after SCRAMOTP_C_AUTH */
+    SCRAMOTP_S_OK = 3,      /* text: the message that accepts the login */
+    SCRAMOTP_S_NO = 4,      /* text: the message that refuses it, or empty if there is none; then comes SCRAMOTP_E */
+    SCRAMOTP_S_PASS = 5,    /* moment, counter: a code passes, or the second of two in a row */
+    SCRAMOTP_S_FAIL = 6,    /* moment: it does not */
+    SCRAMOTP_S_LOCKED = 7,  /* moment: the token is locked */
+    SCRAMOTP_S_NOCODE = 8,  /* moment: the account has no token */
+    SCRAMOTP_S_HALT = 9,    /* in place of a reply to a code: the server can't store the token, and ends the log */
+    SCRAMOTP_S_BUSY = 10,   /* 64 sessions are open, so this one gets no offer; then comes SCRAMOTP_E */
+    SCRAMOTP_C_AUTH = 11,   /* text: the mechanism that the client names, of 1 to 20 bytes from A to Z, 0 to 9, hyphen and underscore */
+    SCRAMOTP_C_AUTH_WITH = 12, /* text: the same; more: the first message, which came with it */
+    SCRAMOTP_C_RESP = 13,   /* text: a message */
+    SCRAMOTP_C_ABORT = 14,  /* the client gives up; then comes SCRAMOTP_S_NO */
+    SCRAMOTP_C_CODE = 15,   /* text: a code, of 1 to 16 bytes from `!` to tilde */
+    SCRAMOTP_C_SYNC = 16,   /* text, more: two codes in a row */
+    SCRAMOTP_C_BAD = 17,    /* the client has said what is none of these or is not due; then comes SCRAMOTP_S_NO */
+    SCRAMOTP_C_GONE = 18,   /* the client goes away, or the server ends the session; then comes SCRAMOTP_E */
+    SCRAMOTP_E = 19         /* the end of a session */
+};
+
+/* A line of a log, besides its texts. What is not named after its kind is ignored. */
+typedef struct {
+    uint64_t session;       /* the number of its session: 1 in the first session of the log, and so on */
+    uint64_t moment;        /* by which a code was judged, in seconds since 1970 */
+    uint64_t counter;       /* that has passed: the new `last` of a TOTP token, or one less than the new `next` of a HOTP token */
+    uint32_t kind;
+} scramotp_line;
+
+/* Writes a line with its LF. A message may be any bytes. Whether the line is due where you put it is for the audit to say.
+ * Numbers: 98 kind; 70 session, a mechanism, a code, moment, counter; 71 a message of which the line would have more than 6202 bytes after
+ * its number; 93 room; the first of these that applies. */
+uint32_t scramotp_log_line(const scramotp_line *line, const void *text, size_t text_len, const void *more, size_t more_len, void *out,
+    size_t out_room, size_t *out_len);
+
 /* What an audit finds. */
 typedef struct {
     uint64_t line;          /* the line at fault, from 1, or 0 if none is */
@@ -261,6 +316,8 @@ enum {
     SCRAMOTP_BAD_COUNT = 65,        /* the count, or the least that a client accepts, is 0 */
     SCRAMOTP_BAD_KEY_LEN = 66,      /* key_len is neither 0 nor the length of the mechanism's keys, or keys are needed and it is 0 */
     SCRAMOTP_BAD_TOKEN = 67,        /* a token in the book is not in its ranges */
+    SCRAMOTP_BAD_LINE = 70,         /* a session, a mechanism, a code, a moment or a counter is not in its form or range */
+    SCRAMOTP_LONG_LINE = 71,        /* a message is too long for a line of a log */
     SCRAMOTP_CUT = 80,              /* the log ends where a line is due, or in a line without its LF */
     SCRAMOTP_NOT_A_LINE = 81,       /* the line is none of a log of its version */
     SCRAMOTP_ORDER = 82,            /* no such line is due there */
@@ -272,11 +329,12 @@ enum {
     SCRAMOTP_BAD_MECHANISM = 90,    /* there is no mechanism of this number */
     SCRAMOTP_BAD_PASSWORD = 91,     /* the password is not 1 to 1024 bytes from space to tilde */
     SCRAMOTP_BAD_NONCE = 92,        /* a part of the nonce is not 1 to 256 bytes from `!` to tilde without a comma */
-    SCRAMOTP_NO_ROOM = 93,          /* the message, or of a client's the longest, is longer than out_room */
+    SCRAMOTP_NO_ROOM = 93,          /* what is to be written, or of a client's messages the longest, is longer than out_room */
     SCRAMOTP_BAD_HASH = 94,         /* there is no hash function of this number */
     SCRAMOTP_BAD_MOMENT = 95,       /* t0 or the moment is after the year 9999 */
     SCRAMOTP_BAD_VERIFIER = 96,     /* the text is no verifier */
     SCRAMOTP_BAD_SPELLING = 97,     /* there is no spelling of this number */
+    SCRAMOTP_BAD_KIND = 98,         /* there is no kind of line of this number */
     SCRAMOTP_NO_MEMORY = 99         /* there was no memory for the audit */
 };
 

@@ -13,6 +13,7 @@ import pathlib
 import re
 import subprocess
 import sys
+import urllib.parse
 from collections.abc import Callable, Iterator
 from typing import Any, NamedTuple
 
@@ -333,6 +334,13 @@ class Audited(ctypes.Structure):
     _fields_ = [(name, ctypes.c_uint64) for name in ("line", "sessions", "accepted", "codes_passed")]
 
 
+class Line(ctypes.Structure):
+    """scramotp_line"""
+
+    _fields_ = [(name, ctypes.c_uint64) for name in ("session", "moment", "counter")]
+    _fields_ += [("kind", ctypes.c_uint32)]
+
+
 class Hotp(ctypes.Structure):
     """scramotp_hotp_token"""
 
@@ -595,6 +603,107 @@ def audited(folder: str) -> None:
             equal((call("audit", text, lines, it), (it.line, it.sessions, it.accepted, it.codes_passed)), (want, found))
 
 
+# What a message of each byte is in a line: each is spelled as itself or percent-encoded (docs/FORMATS.md).
+ALL_BYTES = bytes(range(256))
+SPELLED = urllib.parse.quote_from_bytes(ALL_BYTES, "".join(map(chr, range(33, 127))).replace("%", ""))
+LAST_MOMENT, LAST_COUNTER, LAST_SESSION = 253402300799, 2**63 - 2, 2**63 - 2
+
+# A line of each kind: the numbers of its session and its kind, its texts, its moment and its counter, and its text.
+LINES = [
+    (1, 1, b"", b"", 0, 0, "1 S MECHS SCRAM-SHA-256 SCRAM-SHA-1"),
+    (1, 2, b"", b"", 0, 0, "1 S CONT :"), (LAST_SESSION, 2, ALL_BYTES, b"", 0, 0, f"{LAST_SESSION} S CONT :{SPELLED}"),
+    (1, 3, ALL_BYTES, b"", 0, 0, f"1 S OK :{SPELLED}"), (1, 4, b"", b"", 0, 0, "1 S NO :"),
+    (9, 4, b"e=other-error", b"", 0, 0, "9 S NO :e=other-error"), (10, 5, b"", b"", 0, 0, "10 S PASS 0 0"),
+    (10, 5, b"", b"", LAST_MOMENT, LAST_COUNTER, f"10 S PASS {LAST_MOMENT} {LAST_COUNTER}"),
+    (2, 6, b"", b"", 59, 7, "2 S FAIL 59"), (2, 7, b"", b"", LAST_MOMENT, 2**64 - 1, f"2 S LOCKED {LAST_MOMENT}"),
+    (2, 8, b"", b"", 60, 0, "2 S NOCODE 60"), (2, 9, b"", b"", 0, 0, "2 S HALT"), (65, 10, b"", b"", 0, 0, "65 S BUSY"),
+    (3, 11, b"PLAIN", b"", 0, 0, "3 C AUTH PLAIN"), (3, 11, b"A-Z_019" + b"Z" * 13, b"", 0, 0, f"3 C AUTH A-Z_019{'Z' * 13}"),
+    (3, 12, b"SCRAM-SHA-1", b"", 0, 0, "3 C AUTH SCRAM-SHA-1 :"), (3, 12, b"X", ALL_BYTES, 0, 0, f"3 C AUTH X :{SPELLED}"),
+    (3, 13, ALL_BYTES, b"", 0, 0, f"3 C RESP :{SPELLED}"), (3, 14, b"", b"", 0, 0, "3 C ABORT"),
+    (3, 15, b"755224", b"", 0, 0, "3 C CODE 755224"), (3, 15, b"!%:~" * 4, b"", 0, 0, f"3 C CODE {'!%:~' * 4}"),
+    (3, 16, b"1", b"2", 0, 0, "3 C SYNC 1 2"), (3, 17, b"", b"", 0, 0, "3 C BAD"), (3, 18, b"", b"", 0, 0, "3 C GONE"),
+    (3, 19, b"", b"", 0, 0, "3 E"),
+    (1, 13, b"x" * 6194, b"", 0, 0, f"1 C RESP :{'x' * 6194}"), (1, 3, b"\n" * 2065, b"", 0, 0, f"1 S OK :{'%0A' * 2065}"),
+]
+
+# Lines that are refused: the number, and as above.
+NO_LINES = [
+    (98, 0, 0, b"", b"", 0, 0), (98, 1, 20, b"", b"", 0, 0), (98, 1, 2**32 - 1, b"", b"", 0, 0), (70, 0, 19, b"", b"", 0, 0),
+    (70, LAST_SESSION + 1, 1, b"", b"", 0, 0), (70, 0, 13, b"x" * 9999, b"", 0, 0), (70, 1, 5, b"", b"", LAST_MOMENT + 1, 0),
+    (70, 1, 5, b"", b"", 0, LAST_COUNTER + 1), *((70, 1, kind, b"", b"", LAST_MOMENT + 1, 0) for kind in (6, 7, 8)),
+    *((70, 1, kind, name, b"x", 0, 0) for kind in (11, 12) for name in (b"", b"a", b"A B", b"A\n", b"A :x", b"A" * 21, b"A\0", b"A\xc3")),
+    *((70, 1, 15, code, b"", 0, 0) for code in (b"", b"1 2", b"1\n", b"1" * 17, b"\x7f", b"\x80")),
+    *((70, 1, 16, *codes, 0, 0) for codes in ((b"", b"1"), (b"1", b""), (b"1", b"2 3"), (b"1 2", b"3"), (b"1", b"2" * 17))),
+    (71, 1, 13, b"x" * 6195, b"", 0, 0), (71, 1, 13, b"x" * 50000, b"", 0, 0), (71, 1, 2, b"%" * 2065, b"", 0, 0),
+    (71, 1, 12, b"SCRAM-SHA-1", b"x" * 6183, 0, 0),
+]
+
+
+def log_line(room: int, session: int, kind: int, text: bytes, more: bytes, moment: int, counter: int) -> tuple[int, bytes, int]:
+    """Makes the call that writes a line of a log, as `written`."""
+    return written("log_line", room, Line(session, moment, counter, kind), text, more)
+
+
+def log_lines(folder: str) -> None:
+    """A line of each kind is written in the form that docs/FORMATS.md says, and nothing after it is changed. What is no kind, or has a
+    session, a name, a code, a moment, a counter or a length outside its range, or no room, is refused by its number."""
+    equal({it[1] for it in LINES}, set(range(1, 20)))
+    for trial, (*given, text) in each(LINES):
+        with trial:
+            want = text.encode() + b"\n"
+            for room in [len(want), len(want) + 1, 7000]:
+                equal(log_line(room, *given), (0, want.ljust(room + 9, b"X"), len(want)), text)
+            for room in [0, 1, len(want) - 1]:
+                equal(log_line(room, *given), (93, b"X" * (room + 9), 777), text)
+    for trial, (want, *given) in each(NO_LINES):
+        with trial:
+            equal(log_line(0, *given), (want, b"X" * 9, 777))
+            equal(log_line(7000, *given), (want, b"X" * 7009, 777))
+
+
+def logs(folder: str) -> None:
+    """The lines of a recorded log with two sessions and a code are written as they are, from what they have, and the audit finds the log
+    clean. With the code passed at another counter it names that line."""
+    first, challenge, final, verdict = (SHA1[it].encode() for it in ("first", "challenge", "final", "verdict"))
+    lines = [
+        (1, 1, b"", b""), (2, 1, b"", b""), (2, 11, b"PLAIN", b""), (2, 4, b"", b""), (2, 19, b"", b""), (1, 12, b"SCRAM-SHA-1", first),
+        (1, 2, challenge, b""), (1, 13, final, b""), (1, 3, verdict, b""), (1, 15, CODES[0].encode(), b""), (1, 5, b"", b""),
+        (1, 18, b"", b""), (1, 19, b"", b""),
+    ]
+    for counter, want in (0, (0, 0)), (1, (86, 12)):
+        made = b"SCRAMLOG 2\n"
+        for line in lines:
+            told, out, size = log_line(7000, *line, 3, counter)
+            equal(told, 0, line)
+            made += out[:size]
+        it = Audited(9, 9, 9, 9)
+        equal((call("audit", (AUDITS / "hotp.toml").read_bytes(), made, it), it.line), want)
+        equal(made == (AUDITS / "interleaved.log").read_bytes(), counter == 0)
+
+
+def log_example(folder: str) -> None:
+    """The example of a server that keeps a log logs both published exchanges as they are recorded, and a refused one, and finds its log
+    clean. Where it logs that a refused login was accepted, the audit names that line."""
+    program = compiled(EXAMPLES / "logged.c", "logged")
+    for trial, of in each([SHA1, SHA256]):
+        with trial:
+            words, first = [program, of["mechanism"], of["salt"], of["nonce"]], of["first"]
+            challenge, wrong, _ = final_for(of, first, b"pencils")
+            begin = ["S MECHS SCRAM-SHA-256 SCRAM-SHA-1", f"C AUTH {of['mechanism']} :{first}", f"S CONT :{challenge}".replace("%", "%25")]
+            right, gone = [f"C RESP :{of['final']}".replace("%", "%25"), f"S OK :{of['verdict']}", "C GONE", "E"], ["C GONE", "E"]
+            refused = [f"C RESP :{wrong}".replace("%", "%25"), "S NO :e=invalid-proof", "E"]
+            forged = [refused[0], "S OK :e=invalid-proof", *gone]
+            for more, final, lines, status, said in [
+                ([], of["final"], begin + right, 0, "clean: accepted 1"), ([], wrong, begin + refused, 0, "clean: accepted 0"),
+                (["forge"], wrong, begin + forged, 1, "line 6 is at fault: 85"),
+            ]:
+                want = "".join(f"{it}\n" for it in ["SCRAMLOG 2", *(f"1 {it}" for it in lines), said])
+                equal(ran([*words, *more], f"{first}\n{final}\n"), (status, want, ""), said)
+            unread = ["S MECHS SCRAM-SHA-256 SCRAM-SHA-1", f"C AUTH {of['mechanism']} :x%20", "S NO :", "E"]
+            want = "".join(f"{it}\n" for it in ["SCRAMLOG 2", *(f"1 {it}" for it in unread), "clean: accepted 0"])
+            equal(ran(words, "x \n"), (0, want, ""))
+
+
 def codes(folder: str) -> None:
     """The codes of RFC 4226, appendix D, RFC 6238, appendix B, and those that oathtool made pass, each once."""
     secret = bytes.fromhex(SEEDS["sha1"])
@@ -716,7 +825,7 @@ def fuzzed(folder: str) -> None:
     """Random and changed messages in buffers of exactly their length, and NULL where the length is 0: no call reads or writes outside."""
     if program := sanitized("c_library_fuzz.c", "fuzz", "address,undefined"):
         seen = {int(it) for it in ran([program, str(suite.SEED), "20000"]).given().split()}
-        want = {0, 20, 24, 26, 28, 30, 31, 32, 34, 36, 42, 43, 44, 63, 64, 65, 66, 90, 91, 92, 93, 96, 97}
+        want = {0, 20, 24, 26, 28, 30, 31, 32, 34, 36, 42, 43, 44, 63, 64, 65, 66, 90, 91, 92, 93, 96, 97, 98}
         holds(seen >= want, "numbers that were seen", sorted(seen))
 
 

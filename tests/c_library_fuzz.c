@@ -176,6 +176,21 @@ static void spell(void)
     free(out.at);
 }
 
+static void log_a_line(void)
+{
+    scramotp_line line = {below(9) ? below(100) : state, below(9) ? below(100) : state, below(9) ? below(100) : state, (uint32_t)below(22)};
+    buffer text = changed(below(2) ? "SCRAM-SHA-1" : "755224"), more = changed(first_text);
+    buffer out = {NULL, below(3) ? SCRAMOTP_LINE_ROOM : below(100)};
+    size_t len = 0;
+    out.at = malloc(out.len);
+    if (note(scramotp_log_line(&line, text.at, text.len, more.at, more.len, out.at, out.len, &len)) == 0
+        && (len > out.len || out.at[len - 1] != '\n'))
+        abort();
+    free(text.at);
+    free(more.at);
+    free(out.at);
+}
+
 static void audit(void)
 {
     buffer book = changed(book_text), log = changed(log_text);
@@ -209,6 +224,7 @@ int main(int count, char **words)
         log_in();
         log_in_as_client();
         spell();
+        log_a_line();
         audit();
         judge_codes();
     }

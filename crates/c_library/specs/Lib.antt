@@ -7,5 +7,6 @@ pub mod Logins
 pub mod Clients
 pub mod Tokens
 pub mod Verifiers
+pub mod LogLines
 pub mod Audits
 pub mod inner

@@ -47,4 +47,7 @@ fault_number fault.Hash = 94
 fault_number fault.Moment = 95
 fault_number fault.Verifier = 96
 fault_number fault.Spelling = 97
+fault_number fault.Kind = 98
+fault_number fault.NoLine = 70
+fault_number fault.LongLine = 71
 fault_number (fault.Otp otp) = otp_fault_number otp

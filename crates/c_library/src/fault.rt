@@ -54,6 +54,15 @@ pub enum Fault {
     /// There is no spelling of this number.
     Spelling,
 
+    /// There is no kind of line of this number.
+    Kind,
+
+    /// What a line has is not in its ranges.
+    NoLine,
+
+    /// A line is too long.
+    LongLine,
+
     /// The secret, the number of digits or a setting of a token is refused.
     Otp(OtpFault),
 }
@@ -87,6 +96,9 @@ impl Fault {
             Fault::Moment => 95,
             Fault::Verifier => 96,
             Fault::Spelling => 97,
+            Fault::Kind => 98,
+            Fault::NoLine => 70,
+            Fault::LongLine => 71,
             Fault::Otp(fault) => u32::from(fault.number()),
         }
     }

@@ -1,5 +1,5 @@
 //! SCRAM logins at a server and at a client (RFC 5802, RFC 7677), the keys of a password, one-time codes (RFC 4226, RFC 6238), and the
-//! audit of a log, for C.
+//! lines and the audit of a log, for C.
 //!
 //! Each exported function is one call of `clib/scramotp.h`, which says how a program in C uses it. No call keeps anything
 //! between calls, or fails in a way that its number does not tell: the contract of each says which demands it makes of its arguments, in
@@ -15,6 +15,8 @@ mod entry;
 mod fault;
 mod hotp;
 mod keys;
+mod line_draft;
+mod log_line;
 mod names;
 mod put;
 mod server;
