@@ -2,7 +2,7 @@
 use Rattle.std.specs.Prelude.{ℕ, List, codes}
 use Rattle.command_line.specs.declared.option_name.OptionName.{OptionName}
 use Rattle.command_line.specs.declared.option_name.OptionName.TheVariants.{Book, Log, Name, As, Socket, Random, ClientNonce, ServerNonce, Mechanism}
-use Rattle.command_line.specs.declared.option_name.OptionName.TheVariants.{Salt, Count, Secret, Digits, Counter, Moment, Hash, T0, Step}
+use Rattle.command_line.specs.declared.option_name.OptionName.TheVariants.{Salt, Count, Secret, Digits, Counter, Moment, Hash, T0, Step, Account, Event}
 
 -- an option's name, as on the command line without its hyphens and in the fault about its value
 abbrev pub option_name : OptionName → List ℕ
@@ -24,3 +24,5 @@ option_name Moment = codes "moment"
 option_name Hash = codes "hash"
 option_name T0 = codes "t0"
 option_name Step = codes "step"
+option_name Account = codes "account"
+option_name Event = codes "event"

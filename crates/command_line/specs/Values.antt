@@ -12,7 +12,7 @@ use Rattle.scram_text.specs.Parts.{IsCount}
 use Rattle.command_line.specs.declared.option_name.OptionName.{OptionName}
 use Rattle.command_line.specs.declared.option_name.OptionName.TheVariants as option
 
--- an option refuses this text; a path may be any text
+-- an option refuses this text; a path may be any text. Which texts `--event` refuses is said where events are (`log_report`).
 abbrev pub Refuses : OptionName → (text : List ℕ) → Type 0
 Refuses option.Name text = IsPlainName text → ⊥
 Refuses option.Mechanism text = (mechanism : Mechanism) → text ≢ name_of mechanism
@@ -26,6 +26,7 @@ Refuses option.Hash text = (hash : OtpHash) → text ≢ hash_name hash
 Refuses option.T0 text = (n : ℕ) → IsMoment n → text ≢ decimal n
 Refuses option.Step text = (n : ℕ) → IsStepLength n → text ≢ decimal n
 Refuses option.As text = IsPlainName text → ⊥
+Refuses option.Account text = IsPlainName text → ⊥
 Refuses option.ClientNonce text = IsNoncePart text → ⊥
 Refuses option.ServerNonce text = IsNoncePart text → ⊥
 Refuses other text = ⊥

@@ -10,7 +10,7 @@ pub enum OptionName {
     /// The file of the account book.
     Book,
 
-    /// The file of the log to audit or to upgrade.
+    /// The file of the log to audit, to report or to upgrade.
     Log,
 
     /// The name of the account.
@@ -60,6 +60,12 @@ pub enum OptionName {
 
     /// TOTP: the length of a step in seconds.
     Step,
+
+    /// The account whose rows are reported.
+    Account,
+
+    /// The kind of event whose rows are reported.
+    Event,
 }
 
 impl OptionName {
@@ -86,6 +92,8 @@ impl OptionName {
             OptionName::Hash => "hash",
             OptionName::T0 => "t0",
             OptionName::Step => "step",
+            OptionName::Account => "account",
+            OptionName::Event => "event",
         }
     }
 }

@@ -80,6 +80,15 @@ pub fn authzid(text: &str) -> Result<PlainName, Fault>
     plain_name(OptionName::As, text)
 }
 
+/// The name of the account whose rows are reported, which is this text: 1 to 255 bytes from 0x20 to 0x7E. Errors: BadValue for any other
+/// text.
+pub fn account(text: &str) -> Result<PlainName, Fault>
+    ensures ok { IfOk result (λ name. (name ≡ text.now) × IsPlainName text.now) }
+    ensures err { IfErr result (λ fault. (fault ≡ Fault.BadValue OptionName.Account) × Refuses OptionName.Account text.now) }
+{
+    plain_name(OptionName::Account, text)
+}
+
 /// One end's part of the nonce, which is this text: 1 to 256 bytes from 0x21 to 0x7E, without a comma. Errors: BadValue with the
 /// option for any other text.
 pub fn nonce(option: OptionName, text: &str) -> Result<NoncePart, Fault>

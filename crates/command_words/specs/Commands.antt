@@ -10,7 +10,7 @@ use Rattle.clap.specs.declared.builder.command.Command.TheViews.{out-Command as 
 use Rattle.command_line.specs.Options.{option_name}
 use Rattle.command_line.specs.declared.option_name.OptionName.{OptionName}
 use Rattle.command_line.specs.declared.option_name.OptionName.TheVariants.{Book, Log, Name, As, Socket, Random, ClientNonce, ServerNonce, Mechanism}
-use Rattle.command_line.specs.declared.option_name.OptionName.TheVariants.{Salt, Count, Secret, Digits, Counter, Moment, Hash, T0, Step}
+use Rattle.command_line.specs.declared.option_name.OptionName.TheVariants.{Salt, Count, Secret, Digits, Counter, Moment, Hash, T0, Step, Account, Event}
 
 -- each command of the program, in the order of its help
 pub data CommandName : Type 0 where
@@ -22,6 +22,7 @@ pub data CommandName : Type 0 where
   Login : CommandName
   Hall : CommandName
   Audit : CommandName
+  Report : CommandName
   Upgrade : CommandName
 
 -- the word that names a command
@@ -34,6 +35,7 @@ word_of Unlock = codes "unlock"
 word_of Login = codes "login"
 word_of Hall = codes "hall"
 word_of Audit = codes "audit"
+word_of Report = codes "report"
 word_of Upgrade = codes "upgrade"
 
 -- an option that takes one value, and may be left out
@@ -89,6 +91,10 @@ hall_options = required_value Book ∷ []
 abbrev pub audit_options : List Rule
 audit_options = required_value Book ∷ required_value Log ∷ []
 
+-- the options of `report`
+abbrev pub report_options : List Rule
+report_options = required_value Book ∷ required_value Log ∷ one_value Account ∷ one_value Event ∷ []
+
 -- the options of `upgrade`
 abbrev pub upgrade_options : List Rule
 upgrade_options = required_value Log ∷ []
@@ -110,6 +116,7 @@ program = record {
       ∷ command (word_of Login) login_options
       ∷ command (word_of Hall) hall_options
       ∷ command (word_of Audit) audit_options
+      ∷ command (word_of Report) report_options
       ∷ command (word_of Upgrade) upgrade_options ∷ [];
 }
 

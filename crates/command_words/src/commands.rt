@@ -3,13 +3,13 @@ ghost use Rattle.std.specs.Prelude.{◌≡◌, false, codes, IfOk};
 ghost use Rattle.clap.specs.Words.{app_of, rule_of};
 ghost use Rattle.command_words.specs.Commands.{one_value, required_value, with_default, program, HasOptions, keys_options};
 ghost use Rattle.command_words.specs.Commands.{enrol_options, code_options, verify_options, unlock_options, login_options, hall_options};
-ghost use Rattle.command_words.specs.Commands.{audit_options, upgrade_options};
+ghost use Rattle.command_words.specs.Commands.{audit_options, report_options, upgrade_options};
 
 mod notes;
 
 use crate::commands::notes::{
     AUDIT_NOTES, CODE_NOTES, ENROL_NOTES, HALL_NOTES, KEYS_NOTES, LOGIN_NOTES, STATUSES,
-    UNLOCK_NOTES, UPGRADE_NOTES, VERIFY_NOTES,
+    REPORT_NOTES, UNLOCK_NOTES, UPGRADE_NOTES, VERIFY_NOTES,
 };
 use clap::{Arg, ArgAction, Command};
 use command_line::OptionName;
@@ -36,6 +36,7 @@ pub fn program_commands<'a>(alloc: Global) -> Result<Command<'a>, AllocError>
         .subcommand(login(alloc)?)?
         .subcommand(hall(alloc)?)?
         .subcommand(audit(alloc)?)?
+        .subcommand(report(alloc)?)?
         .subcommand(upgrade(alloc)?)
 }
 
@@ -194,6 +195,20 @@ fn audit<'a>(alloc: Global) -> Result<Command<'a>, AllocError>
         .after_help(AUDIT_NOTES)
         .arg(book(alloc))?
         .arg(required(alloc, OptionName::Log, "FILE", "The log to check"))
+}
+
+fn report<'a>(alloc: Global) -> Result<Command<'a>, AllocError>
+    ensures { IfOk result (HasOptions (codes "report") report_options) }
+{
+    let account = "Only the rows of the account with this name";
+    let event = "Only the rows of this kind, such as accepted";
+    Command::new(alloc, "report")
+        .about("List who was let in by a log, who was refused, and why")
+        .after_help(REPORT_NOTES)
+        .arg(book(alloc))?
+        .arg(required(alloc, OptionName::Log, "FILE", "The log to report"))?
+        .arg(one_value(alloc, OptionName::Account, "NAME", account))?
+        .arg(one_value(alloc, OptionName::Event, "EVENT", event))
 }
 
 fn upgrade<'a>(alloc: Global) -> Result<Command<'a>, AllocError>

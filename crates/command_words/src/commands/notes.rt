@@ -103,6 +103,35 @@ Example, after that of enrol: a log whose client leaves at once
   printf '%s\\n' 'SCRAMLOG 1' 'S MECHS SCRAM-SHA-256 SCRAM-SHA-1' 'C GONE' E >logins/log.txt
   scramotp audit --book logins/book.toml --log logins/log.txt";
 
+pub(crate) const REPORT_NOTES: &str =
+    "Checks the log as `audit` does, and prints a row for each line that decided something, as soon as
+the line has been found right. The last line and the exit status are those of `audit`. Of a line at
+fault, and of all after it, there are no rows. A row is words with a space between each two:
+
+  LINE SESSION EVENT ACCOUNT ACTS_AS MECHANISM REASON
+
+LINE is the number of the line, SESSION that of its session. ACCOUNT is the name that the client gave,
+whether or not there is such an account, and ACTS_AS the name that it asked to act as. In a name, a
+space is `%20`. `-` stands for what there is none of. These are the events, and what REASON is:
+
+  accepted  -
+  refused   mechanism, grammar, mandatory, binding or name, of the client's first message; encoding,
+            extensions, nonce, channel, no-account, no-keys, proof or acts-as, of its last one;
+            aborted or bad-line, if the client ended the session
+  passed    the time and the counter of the code, or both counters of two codes in a row
+  failed    the time, and `spent` if the code is an old one: of HOTP one of the 1000 counters before
+            the next one, of TOTP one in the window; else `-`
+  locked    the time of a code that came while the token was locked
+  no-token  the time of a code for an account without a token
+  left      -, for a client that went away before an outcome
+  busy      -, for a session that was turned away
+  halted    -, when the server could not save
+
+Keep the rows as secret as the log: a client is never told what no-account and no-keys say.
+
+Example, after those of enrol and audit: a client that left at once
+  scramotp report --book logins/book.toml --log logins/log.txt --event left";
+
 pub(crate) const UPGRADE_NOTES: &str =
     "A log of version 2 begins with `SCRAMLOG 2`. Each other line begins with the number of its session,
 counted from 1. In version 1 a session ends with its `E` line.
