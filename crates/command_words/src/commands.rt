@@ -8,8 +8,8 @@ ghost use Rattle.command_words.specs.Commands.{audit_options, report_options, up
 mod notes;
 
 use crate::commands::notes::{
-    AUDIT_NOTES, CODE_NOTES, ENROL_NOTES, HALL_NOTES, KEYS_NOTES, LOGIN_NOTES, STATUSES,
-    REPORT_NOTES, UNLOCK_NOTES, UPGRADE_NOTES, VERIFY_NOTES,
+    AUDIT_NOTES, CODE_NOTES, ENROL_NOTES, HALL_NOTES, KEYS_NOTES, LOGIN_NOTES, REPORT_NOTES,
+    STATUSES, UNLOCK_NOTES, UPGRADE_NOTES, VERIFY_NOTES,
 };
 use clap::{Arg, ArgAction, Command};
 use command_line::OptionName;

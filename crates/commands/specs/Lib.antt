@@ -1,5 +1,5 @@
 -- What a run of the program does, in the order in which to read it: `verify`, what a run leaves, `login` and `hall` with the faults that
--- end them, `audit` and `upgrade`, and the program itself.
+-- end them, `audit`, `report` and `upgrade`, and the program itself.
 pub mod Talked
 pub mod SentCodes
 pub mod Verify
@@ -13,6 +13,7 @@ pub mod Login
 pub mod LoginFaults
 pub mod Hall
 pub mod Audit
+pub mod Report
 pub mod Upgrade
 pub mod Joined
 pub mod Program

@@ -12,7 +12,7 @@ use Rattle.clap.specs.declared.parser.matches.ArgMatches.{ArgMatches}
 use Rattle.command_line.specs.Fault.{status_of}
 use Rattle.command_line.specs.declared.fault.Fault.{Fault}
 use Rattle.command_line.specs.declared.fault.Fault.TheVariants.{CannotWriteOutput}
-use Rattle.command_words.specs.Commands.CommandName.{Keys, Enrol, Code, Verify, Unlock, Login, Hall, Audit, Upgrade}
+use Rattle.command_words.specs.Commands.CommandName.{Keys, Enrol, Code, Verify, Unlock, Login, Hall, Audit, Report, Upgrade}
 use Rattle.command_words.specs.Commands.{CommandName, program, word_of}
 use Rattle.command_io.specs.Printed.{PrintsNothingUnlessOutputFailed}
 use Rattle.account_commands.specs.Code.{CannotPrintCode, PrintsCodeAsked}
@@ -20,6 +20,7 @@ use Rattle.account_commands.specs.Enrol.{CannotEnrol, EnrolsAsked}
 use Rattle.account_commands.specs.Keys.{CannotPrintKeys, PrintsKeysAsked}
 use Rattle.account_commands.specs.Unlock.{CannotUnlock, UnlocksAsked}
 use Rattle.commands.specs.Audit.{CannotAudit, PrintsAudit}
+use Rattle.commands.specs.Report.{PrintsReport, StopsReport}
 use Rattle.commands.specs.Upgrade.{CannotUpgrade, PrintsUpgrade}
 use Rattle.commands.specs.Hall.{RunsHall, StopsHall}
 use Rattle.commands.specs.LoginFaults.{StopsLogin}
@@ -63,8 +64,8 @@ IsWordsError line error = (error ≡ kind.OutOfMemory) ⊎ IsAmong error (fault_
 
 -- what a run does, given the bytes of files and those written to them
 module _ {File : Type 0} (bytes_of written_to : File → Option (List ℕ)) where
-  -- what a command has done for its words if it ends with this status: `verify` and `login` with that of their answer, `audit` and
-  -- `upgrade` with that of a log, and the others with 0. Which files are read is not said (`specs/Text.antt` of `book_file`).
+  -- what a command has done for its words if it ends with this status: `verify` and `login` with that of their answer, `audit`,
+  -- `report` and `upgrade` with that of a log, and the others with 0. Which files are read is not said (`specs/Text.antt` of `book_file`).
   abbrev pub HasDone : CommandName → ArgMatches → (status : ℕ) → (input old new : Option (List ℕ)) → Type 0
   HasDone Keys words status input old new = (status ≡ 0) × PrintsKeysAsked words input old new
   HasDone Enrol words status input old new = (status ≡ 0) × EnrolsAsked bytes_of written_to words input old new
@@ -76,6 +77,7 @@ module _ {File : Type 0} (bytes_of written_to : File → Option (List ℕ)) wher
       × RunsLogin bytes_of written_to words input old passed new
   HasDone Hall words status input old new = (status ≡ 0) × RunsHall bytes_of written_to input [] old new
   HasDone Audit words status input old new = PrintsAudit bytes_of status old new
+  HasDone Report words status input old new = PrintsReport bytes_of words status old new
   HasDone Upgrade words status input old new = PrintsUpgrade bytes_of status old new
 
   -- what a command has printed if it ends with this fault: nothing, or what its first lines or events ask for; and why it ends
@@ -84,6 +86,7 @@ module _ {File : Type 0} (bytes_of written_to : File → Option (List ℕ)) wher
       (CannotBeginToVerify bytes_of words fault × (new ≡ old)) ⊎ VerifiesFirstLines bytes_of written_to words input old fault new
   StopsAt Login words fault input old new = StopsLogin bytes_of written_to words fault input old new
   StopsAt Hall words fault input old new = StopsHall bytes_of written_to words fault input old new
+  StopsAt Report words fault input old new = StopsReport bytes_of words fault old new
   StopsAt Keys words fault input old new = PrintsNothingUnlessOutputFailed fault old new × CannotPrintKeys words input fault
   StopsAt Code words fault input old new = PrintsNothingUnlessOutputFailed fault old new × CannotPrintCode words fault
   StopsAt Enrol words fault input old new = PrintsNothingUnlessOutputFailed fault old new × CannotEnrol bytes_of words input fault

@@ -3,3 +3,5 @@ pub mod ClientSteps
 pub mod DeskLogSteps
 pub mod TurnFaults
 pub mod HallSteps
+pub mod RowsAsked
+pub mod PrintedRows

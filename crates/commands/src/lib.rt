@@ -1,4 +1,4 @@
-//! The program's commands: `verify`, `login`, `hall`, `audit` and `upgrade` are here, the others in `account_commands`.
+//! The program's commands: `verify`, `login`, `hall`, `audit`, `report` and `upgrade` are here, the others in `account_commands`.
 //!
 //! `run` finds the command that the words name, and does all the work of a run of the program. It is given the words, the streams
 //! and a runtime, so tests can pass in files and streams that fail. `laws` says what runs of `verify`, `enrol`, `unlock`, `login` and
@@ -18,6 +18,7 @@ mod login;
 mod printed_log;
 mod program;
 mod progress;
+mod report;
 mod sent_codes;
 mod service_fault;
 mod upgrade;

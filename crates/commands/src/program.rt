@@ -11,6 +11,7 @@ use crate::audit::audit;
 use crate::hall::hall;
 use crate::joined::joined_words;
 use crate::login::login;
+use crate::report::report as report_log;
 use crate::upgrade::upgrade;
 use crate::verify::verify;
 use account_commands::code::code;
@@ -198,6 +199,7 @@ where
             (done(ended), output)
         }
         Some(("audit", inner)) => (audit(rt, inner, &mut output, faults), output),
+        Some(("report", inner)) => report_log(rt, inner, output),
         Some(("upgrade", inner)) => (upgrade(rt, inner, &mut output, faults), output),
         _ => unreachable!(),
     }

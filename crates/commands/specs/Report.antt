@@ -1,0 +1,106 @@
+-- What the command `report` prints, and for which files; and what it has printed when a fault ends it.
+use Rattle.std.specs.Prelude.{ℕ, ◌≡◌, ◌≢◌, ◌≤◌, ◌+◌, ◌⊎◌, Bool, true, false, ◌&&◌, List, [], ◌∷◌, ◌++◌, length, filter}
+use Rattle.std.specs.List.{AllByRecursion}
+use Rattle.std.specs.Option.{option_map_or}
+use Rattle.std.specs.Str.{bytes_eq}
+use Rattle.std.specs.Io.KnownBytes.{Appends}
+use Rattle.std.specs.declared.option.Option.{Option}
+use Rattle.std.specs.declared.option.Option.TheVariants.{Some}
+use Rattle.std.specs.declared.result.Result.{Result}
+use Rattle.std.specs.declared.result.Result.TheVariants.{Ok, Err}
+use Rattle.clap.specs.declared.parser.matches.ArgMatches.{ArgMatches}
+use Rattle.scram_text.specs.SplitLines.{LacksLf, ended_by_lf}
+use Rattle.account_book.specs.{BookFields}
+use Rattle.command_line.specs.Values.{Refuses}
+use Rattle.command_line.specs.declared.fault.Fault.{Fault}
+use Rattle.command_line.specs.declared.fault.Fault.TheVariants.{BadValue, CannotWriteOutput, NoMemory as MemoryRanOut}
+use Rattle.command_line.specs.declared.option_name.OptionName.TheVariants as option
+use Rattle.command_words.specs.Values.{value_of, given_value}
+use Rattle.log_grammar.specs.Books.{accounts_in}
+use Rattle.log_grammar.specs.Versions.{any_version}
+use Rattle.log_report.specs.RowTexts.{name_of_event, event_word, rows_text}
+use Rattle.log_report.specs.Rows.{IsReportOf}
+use Rattle.log_report.specs.declared.event_name.EventName.{EventName}
+use Rattle.log_report.specs.declared.row.Row.{Row}
+use Rattle.sasl_log.specs.Telling.{AreAllBefore}
+use Rattle.sasl_log.specs.declared.auditor.count.Clean.{Clean}
+use Rattle.sasl_log.specs.declared.auditor.why.AuditFault.{AuditFault}
+use Rattle.sasl_log.specs.declared.auditor.why.AuditFault.TheVariants.{NoMemory}
+use Rattle.command_io.specs.File.{IsFileUnreadOrNoMemory}
+use Rattle.command_io.specs.HeldBook.{IsReadBook}
+use Rattle.commands.specs.Audit.{log_status, printed_audit, IsAuditOf, CannotReadBook}
+
+-- the row is of the account of this name
+abbrev pub is_of_account : Row → (name : List ℕ) → Bool
+is_of_account row name = option_map_or (λ account. bytes_eq account name) row.account false
+
+-- the row is of the kind of event with this word
+abbrev pub is_of_event : Row → (word : List ℕ) → Bool
+is_of_event row word = bytes_eq (event_word (name_of_event row.event)) word
+
+-- the words ask for this row: those of an account, or of a kind of event, if they name one; else all
+abbrev pub is_asked : ArgMatches → Row → Bool
+is_asked words row = option_map_or (is_of_account row) (value_of words option.Account) true
+    && option_map_or (is_of_event row) (value_of words option.Event) true
+
+-- the texts of the rows that the words ask for
+abbrev pub printed_rows : ArgMatches → List Row → List ℕ
+printed_rows words rows = rows_text (filter (is_asked words) rows)
+
+-- the lines that come before what an audit of these bytes names
+pub record AreLinesBefore (bytes : List ℕ) (answer : Result Clean AuditFault) (texts : List (List ℕ)) : Type 0 where
+  -- what was read after them, and what was then left
+  pub unfinished : List ℕ
+  pub left : List ℕ
+  pub bytes_are : bytes ≡ ended_by_lf texts ++ (unfinished ++ left)
+  pub lacks : AllByRecursion LacksLf texts
+  pub before : AreAllBefore answer (length texts) unfinished (record { left = Some left; failed = false })
+
+-- these are the rows of the lines of a log that come before what the answer names, if the log's bytes are known
+abbrev pub AreRowsBefore : BookFields → (log : Option (List ℕ)) → Result Clean AuditFault → List Row → Type 0
+AreRowsBefore book log answer rows = (bytes : List ℕ) → log ≡ Some bytes
+    → (texts : List (List ℕ)) × AreLinesBefore bytes answer texts × IsReportOf book texts rows
+
+-- the log in a file is judged by a book that was read from a file. The rows of its lines are printed, as the words ask for them, up to what
+-- the answer names, and then the answer, which is not that memory ran out, and which determines the exit status.
+pub record PrintsReport {File : Type 0} (bytes_of : File → Option (List ℕ)) (words : ArgMatches) (status : ℕ)
+    (old new : Option (List ℕ)) : Type 0 where
+  pub text : List ℕ
+  pub book : BookFields
+  pub is_read : IsReadBook bytes_of text book
+  pub log_file : File
+  pub answer : Result Clean AuditFault
+  pub is_audit : IsAuditOf (accounts_in book) (bytes_of log_file) answer
+  pub rows : List Row
+  pub are_rows : AreRowsBefore book (bytes_of log_file) answer rows
+  pub had_memory : answer ≢ Err NoMemory
+  pub is_status : status ≡ log_status answer
+  pub printed : Appends old new (printed_rows words rows ++ printed_audit answer)
+
+-- the fault is that the value of `--account` is no name of an account, or that of `--event` no word for a kind of event
+abbrev pub RefusesRowOptions : ArgMatches → Fault → Type 0
+RefusesRowOptions words fault =
+    ((text : List ℕ) × (value_of words option.Account ≡ Some text) × Refuses option.Account text × (fault ≡ BadValue option.Account))
+    ⊎ ((text : List ℕ) × (value_of words option.Event ≡ Some text) × ((name : EventName) → text ≢ event_word name)
+    × (fault ≡ BadValue option.Event))
+
+-- rows of the first lines of a log in a file were printed, by a book that was read from a file
+pub record PrintsFirstRows {File : Type 0} (bytes_of : File → Option (List ℕ)) (words : ArgMatches) (old new : Option (List ℕ))
+    : Type 0 where
+  pub text : List ℕ
+  pub book : BookFields
+  pub is_read : IsReadBook bytes_of text book
+  pub log_file : File
+  pub rows : List Row
+  pub are_rows : (bytes : List ℕ) → bytes_of log_file ≡ Some bytes
+      → (texts : List (List ℕ)) × (rest : List ℕ) × (bytes ≡ ended_by_lf texts ++ rest) × (any_version (accounts_in book)).MayBegin texts
+      × IsReportOf book texts rows
+  pub printed : Appends old new (printed_rows words rows)
+
+-- a fault ends `report`. Nothing was printed, and a value is refused, the book is not read, or the log is not opened; or the output can't
+-- be written; or memory ran out, after rows of the log's first lines were printed.
+abbrev pub StopsReport : {File : Type 0} → (bytes_of : File → Option (List ℕ)) → ArgMatches → Fault → (old new : Option (List ℕ)) → Type 0
+StopsReport bytes_of words fault old new =
+    ((new ≡ old) × (RefusesRowOptions words fault ⊎ (CannotReadBook bytes_of (given_value words option.Book) fault
+    ⊎ IsFileUnreadOrNoMemory (given_value words option.Log) fault)))
+    ⊎ ((fault ≡ CannotWriteOutput) ⊎ ((fault ≡ MemoryRanOut) × PrintsFirstRows bytes_of words old new))
