@@ -72,6 +72,7 @@ _scramotp_options() {
     login) echo --book --name --mechanism --as --socket --random --client-nonce --server-nonce --moment --help ;;
     hall) echo --book --help ;;
     audit) echo --book --log --help ;;
+    report) echo --book --log --account --event --help ;;
     upgrade) echo --log --help ;;
     esac
 }
@@ -89,13 +90,14 @@ _scramotp() {
     --mechanism) _scramotp_offer SCRAM-SHA-1 SCRAM-SHA-256 ;;
     --hash) _scramotp_offer sha1 sha256 sha512 ;;
     --digits) _scramotp_offer 6 7 8 ;;
-    --name | --as)
+    --event) _scramotp_offer accepted refused passed failed locked no-token left busy halted ;;
+    --name | --as | --account)
         mapfile -t values < <(_scramotp_accounts "$(_scramotp_book "${given[@]}")")
         _scramotp_offer "${values[@]}"
         ;;
     '')
         if [[ ${#given[@]} -eq 0 ]]; then
-            _scramotp_offer keys enrol code verify unlock login hall audit upgrade --help --version
+            _scramotp_offer keys enrol code verify unlock login hall audit report upgrade --help --version
         else
             for option in $(_scramotp_options "${given[0]}"); do
                 [[ " ${given[*]} " == *" $option"[\ =]* ]] || _scramotp_offer "$option"

@@ -36,6 +36,7 @@ complete -c scramotp -n __scramotp_begins -a unlock -d "Unlock an account's toke
 complete -c scramotp -n __scramotp_begins -a login -d "Run one login, as server and as client, and print the server's log"
 complete -c scramotp -n __scramotp_begins -a hall -d 'Check up to 64 logins at a time, given as events, and print their log'
 complete -c scramotp -n __scramotp_begins -a audit -d 'Check a log against the book that it began with'
+complete -c scramotp -n __scramotp_begins -a report -d 'List who was let in by a log, who was refused, and why'
 complete -c scramotp -n __scramotp_begins -a upgrade -d 'Convert a log from version 1 to version 2, which numbers its sessions'
 complete -c scramotp -n __scramotp_begins -s h -l help -d 'Print help'
 complete -c scramotp -n __scramotp_begins -s V -l version -d 'Print version'
@@ -86,6 +87,12 @@ complete -c scramotp -n '__scramotp_runs hall' -s h -l help -d 'Print help'
 complete -c scramotp -n '__scramotp_runs audit' -l book -r -F -d 'The account book'
 complete -c scramotp -n '__scramotp_runs audit' -l log -r -F -d 'The log to check'
 complete -c scramotp -n '__scramotp_runs audit' -s h -l help -d 'Print help'
+
+complete -c scramotp -n '__scramotp_runs report' -l book -r -F -d 'The account book'
+complete -c scramotp -n '__scramotp_runs report' -l log -r -F -d 'The log to report'
+complete -c scramotp -n '__scramotp_runs report' -l account -x -a '(__scramotp_accounts)' -d 'Only the rows of the account with this name'
+complete -c scramotp -n '__scramotp_runs report' -l event -x -a 'accepted refused passed failed locked no-token left busy halted' -d 'Only the rows of this kind'
+complete -c scramotp -n '__scramotp_runs report' -s h -l help -d 'Print help'
 
 complete -c scramotp -n '__scramotp_runs upgrade' -l log -r -F -d 'The log to convert'
 complete -c scramotp -n '__scramotp_runs upgrade' -s h -l help -d 'Print help'

@@ -1,4 +1,4 @@
--- The steps of `login` and `hall`. For private functions only: no public contract cites these files.
+-- The steps of `login` and `hall`, and how `report` prints rows. For private functions only: no public contract cites these files.
 pub mod ClientSteps
 pub mod DeskLogSteps
 pub mod TurnFaults

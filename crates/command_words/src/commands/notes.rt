@@ -110,9 +110,10 @@ fault, and of all after it, there are no rows. A row is words with a space betwe
 
   LINE SESSION EVENT ACCOUNT ACTS_AS MECHANISM REASON
 
-LINE is the number of the line, SESSION that of its session. ACCOUNT is the name that the client gave,
-whether or not there is such an account, and ACTS_AS the name that it asked to act as. In a name, a
-space is `%20`. `-` stands for what there is none of. These are the events, and what REASON is:
+LINE is the number of the line, SESSION that of its session. ACCOUNT is the name that the client
+gave, whether or not there is such an account, and ACTS_AS the name that it asked to act as. In a
+name, a space is `%20`. `-` stands for what there is none of. These are the events, with what REASON
+is:
 
   accepted  -
   refused   mechanism, grammar, mandatory, binding or name, of the client's first message; encoding,
