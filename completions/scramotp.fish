@@ -90,8 +90,9 @@ complete -c scramotp -n '__scramotp_runs audit' -s h -l help -d 'Print help'
 
 complete -c scramotp -n '__scramotp_runs report' -l book -r -F -d 'The account book'
 complete -c scramotp -n '__scramotp_runs report' -l log -r -F -d 'The log to report'
-complete -c scramotp -n '__scramotp_runs report' -l account -x -a '(__scramotp_accounts)' -d 'Only the rows of the account with this name'
-complete -c scramotp -n '__scramotp_runs report' -l event -x -a 'accepted refused passed failed locked no-token left busy halted' -d 'Only the rows of this kind'
+complete -c scramotp -n '__scramotp_runs report' -l account -x -a '(__scramotp_accounts)' -d 'Only the rows of this account'
+set -l __scramotp_events accepted refused passed failed locked no-token left busy halted
+complete -c scramotp -n '__scramotp_runs report' -l event -x -a "$__scramotp_events" -d 'Only the rows of this kind'
 complete -c scramotp -n '__scramotp_runs report' -s h -l help -d 'Print help'
 
 complete -c scramotp -n '__scramotp_runs upgrade' -l log -r -F -d 'The log to convert'

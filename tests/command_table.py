@@ -20,6 +20,7 @@ BOOK = (AUDITS / "hotp.toml").read_text().replace("failures = 0", "failures = 2"
 # This book with a token that is locked after 100 failures, not after three.
 LIMIT_100 = BOOK.replace("limit = 3", "limit = 100")
 LOG = ACCEPTED + GONE
+REPORTED = "6 1 accepted user - SCRAM-SHA-1 -\nclean sessions=1 accepted=1 codes=0\n"
 RANDOM = bytes(range(64))
 
 
@@ -116,6 +117,7 @@ def commands(count: int = 2) -> list[Command]:
         Command("login", login, f"pencil\n{codes}", login_log(count), [book, *after_codes(book, count)]),
         Command("hall", ["--book", "{book}"], heard, log, [book, *after_codes(book, count)]),
         Command("audit", ["--book", "{book}", "--log", "{log}"], "", "clean sessions=1 accepted=1 codes=0\n", [book]),
+        Command("report", ["--book", "{book}", "--log", "{log}"], "", REPORTED, [book]),
         Command("upgrade", ["--log", "{log}"], "", numbered(LOG), [book]),
     ]
 

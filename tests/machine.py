@@ -66,6 +66,7 @@ UNKEPT = Due(3, "", UNSAVED, 0)
 # are printed; `login` and `hall` save the book before their first line.
 LOST_OUTPUT = {"keys": printless(0), "code": printless(0), "enrol": printless(1), "new": printless(1), "verify": printless(1)}
 LOST_OUTPUT |= {"unlock": printless(1), "login": printless(1), "hall": printless(1), "audit": printless(0), "upgrade": printless(0)}
+LOST_OUTPUT |= {"report": printless(0)}
 LOST_INPUT = {"keys": unread(), "enrol": unread(), "new": unread(), "verify": unread(), "login": unread()}
 LOST_INPUT |= {"hall": unread(1, "SCRAMLOG 2\n")}
 LOST_SAVE = {name: UNKEPT for name in ["enrol", "new", "verify", "unlock", "login", "hall"]}

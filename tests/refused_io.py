@@ -130,7 +130,10 @@ def reads_and_writes_that_move_one_byte(folder: str) -> None:
 
 def is_told(command: Command, answer: Answer, fault: str) -> bool:
     """Whether a run that did not do all its work reports this fault, after what it could print. `audit` prints that of a read of the log,
-    and `upgrade` reports it without the prefix."""
+    `report` prints it after rows, and `upgrade` reports it without the prefix."""
+    if fault == "read fault" and command.name == "report":
+        rows = answer.output.removesuffix(f"{fault}\n")
+        return (answer.status, answer.faults) == (3, "") and rows != answer.output and is_front(command, rows)
     if fault == "read fault":
         return answer == {"audit": (3, f"{fault}\n", ""), "upgrade": (3, "", f"{fault}\n")}[command.name]
     return answer.status == 3 and answer.faults == fault_text(fault) and is_front(command, answer.output)

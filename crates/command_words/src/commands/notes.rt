@@ -144,7 +144,7 @@ standard error, as `audit` prints them, and nothing else is printed.
 The whole log is read, up to 1000000 lines, before anything is printed. Standard input is read only
 if the log is /dev/stdin.
 
-Example, after those of enrol and audit:
+Example, after those of enrol and audit: the log with numbers
   scramotp upgrade --log logins/log.txt >logins/log2.txt
   scramotp audit --book logins/book.toml --log logins/log2.txt";
 
