@@ -1,12 +1,13 @@
 #!/usr/bin/env python3
-"""Times audits of long logs, as processor time of the program's run, and measures its memory.
+"""Times audits and reports of long logs, as processor time of the program's run, and measures its memory.
 
 Usage: audit.py PROGRAM
 
 The script makes each log, with messages and codes from Python's hmac: logins by SCRAM-SHA-1 and SCRAM-SHA-256 in turn, each
 with its own nonces, one after another, and as logs of version 2, one after another and 64 at once; and sessions of many
-accounts, in each of which many codes pass. Each audit has to answer with the log's own counts. The times are the best of several
-turns, and include the start of the program and the reading of the book.
+accounts, in each of which many codes pass. Each audit has to answer with the log's own counts, and each report has to have a row for each
+login and each code before them. The times are the best of several turns, and include the start of the program and the reading of the
+book.
 """
 import hashlib
 import os
@@ -100,29 +101,57 @@ def of_codes(names: list[str]) -> tuple[str, str]:
     return "SCRAMLOG 1\n" + "".join(sessions), f"clean sessions={count} accepted={count} codes={count * CODES}\n"
 
 
+def rows(log: str) -> str:
+    """The rows of a log of version 1, in which logins are accepted and codes pass."""
+    found, session, name, mechanism = [], 0, "", ""
+    for line, text in enumerate(log.splitlines(), 1):
+        words = text.split(" ")
+        if words[1:2] == ["MECHS"]:
+            session += 1
+        elif words[1:2] == ["AUTH"]:
+            mechanism, name = words[2], words[3].partition("n=")[2].partition(",")[0]
+        elif words[1:2] == ["OK"]:
+            found.append(f"{line} {session} accepted {name} - {mechanism} -\n")
+        elif words[1:2] == ["PASS"]:
+            found.append(f"{line} {session} passed {name} - {mechanism} {words[2]} {words[3]}\n")
+    return "".join(found)
+
+
 def peak(words: list, log: str, want: str) -> int:
     """The peak memory in KiB of a run that reads the log from a pipe, looked up when it has read nearly all of it."""
-    child = subprocess.Popen(words, stdin=subprocess.PIPE, stdout=subprocess.PIPE)
-    child.stdin.write(log.encode())
-    child.stdin.flush()
-    status = pathlib.Path(f"/proc/{child.pid}/status").read_text()
-    printed, _ = child.communicate()
-    if (child.returncode, printed.decode()) != (0, want):
+    with tempfile.TemporaryFile("w+") as file:
+        child = subprocess.Popen(words, stdin=subprocess.PIPE, stdout=file)
+        child.stdin.write(log.encode())
+        child.stdin.flush()
+        status = pathlib.Path(f"/proc/{child.pid}/status").read_text()
+        child.communicate()
+        file.seek(0)
+        printed = file.read()
+    if (child.returncode, printed) != (0, want):
         sys.exit(f"{words}: status {child.returncode}, {printed!r}, not {want!r}")
     return int(status.split("VmHWM:")[1].split()[0])
 
 
-def audit(program: str, folder: pathlib.Path, text: str, log: pathlib.Path | str) -> list[str]:
-    """Writes a book with this text, and returns the words of an audit by it."""
+def words_of(command: str, program: str, folder: pathlib.Path, text: str, log: pathlib.Path | str) -> list[str]:
+    """Writes a book with this text, and returns the words of an audit or a report by it."""
     (folder / "book").write_text(text)
-    return [program, "audit", "--book", str(folder / "book"), "--log", str(log)]
+    return [program, command, "--book", str(folder / "book"), "--log", str(log)]
 
 
-def best(program: str, folder: pathlib.Path, text: str, log: str, want: str) -> float:
-    """The least processor time, in seconds, of several audits of this log."""
+def best(program: str, folder: pathlib.Path, text: str, log: str, want: str, command: str = "audit") -> float:
+    """The least processor time, in seconds, of several audits or reports of this log."""
     (folder / "log").write_text(log)
-    words = audit(program, folder, text, folder / "log")
+    words = words_of(command, program, folder, text, folder / "log")
     return min(processor(words, exactly(want)) for _ in range(TURNS))
+
+
+def reports(program: str, folder: pathlib.Path, text: str, log: str, want: str, audited: float) -> None:
+    """Times reports of a log of version 1, and compares that with the time of its audits."""
+    all_rows = rows(log)
+    taken = best(program, folder, text, log, all_rows + want, "report")
+    count = all_rows.count("\n")
+    share = 100 * audited / taken
+    print(f"its report: {count} rows, {taken:.2f} s, {count / taken:.0f} rows a second, {share:.0f} % as many lines a second")
 
 
 def main() -> None:
@@ -139,13 +168,17 @@ def main() -> None:
             second, counts = at_once(LOGINS, open_sessions)
             share = 100 * taken / best(program, folder, one, second, counts)
             print(f"version 2, {open_sessions} open at a time: {share:.0f} % as many lines a second")
-        piped = audit(program, folder, one, "/dev/stdin")
-        few, many = peak(piped, *of_logins(FEW)), peak(piped, log, want)
-        print(f"peak memory: {few} KiB for {FEW} logins, {many} KiB for {LOGINS}, ratio {many / few:.3f}")
+        for command in ("audit", "report"):
+            piped, (short, counts) = words_of(command, program, folder, one, "/dev/stdin"), of_logins(FEW)
+            front = command == "report"
+            few, many = peak(piped, short, rows(short) * front + counts), peak(piped, log, rows(log) * front + want)
+            print(f"peak memory of {command}: {few} KiB for {FEW} logins, {many} KiB for {LOGINS}, ratio {many / few:.3f}")
+        reports(program, folder, one, log, want, taken)
         log, want = of_codes(names)
         taken = best(program, folder, book(names, True), log, want)
         lines = log.count("\n")
         print(f"{ACCOUNTS} accounts, {ACCOUNTS * CODES} codes, {lines} lines: {taken:.2f} s, {lines / taken:.0f} lines a second")
+        reports(program, folder, book(names, True), log, want, taken)
 
 
 if __name__ == "__main__":
