@@ -94,11 +94,13 @@ def bad_values(folder: str) -> None:
 
 
 def cut_logs(folder: str) -> None:
-    """Of a log that ends after any of its bytes there are the rows of its whole lines, and no other."""
+    """Of a log that ends before or after the LF of a line there are the rows of its whole lines, and no other."""
     text, log = INCIDENT.read_bytes(), pathlib.Path(folder, "log")
     decided = [int(row.split(" ")[0]) for row in ROWS]
-    ends = [at for at in range(0, len(text), 7)] + [at + more for at in range(len(text)) if text[at:at + 1] == b"\n" for more in (0, 1)]
-    for trial, size in each(sorted(set(ends) - {len(text)})):
+    # Before and after the LF of each line that has a row, and of some others.
+    ends = [at + more for at in range(len(text)) if text[at:at + 1] == b"\n" for more in (0, 1)]
+    rows_end = [it for it in ends if text[:it].count(b"\n") + (text[:it][-1:] != b"\n") in decided]
+    for trial, size in each(sorted({0, 5, *rows_end, *ends[::9]} - {len(text)})):
         with trial:
             log.write_bytes(text[:size])
             whole = text[:size].count(b"\n")
