@@ -1,4 +1,12 @@
--- The lemmas that the proofs of this crate, and of the crates above it, cite.
+-- Main lemmas, `each_log_of_any_version_is_judged` and `log_has_one_judgement` (kinds/OneAnswer): each log is clean, or exactly one line of
+-- it is at fault, for exactly one reason.
+-- Cited by laws of src/judgements.rt and src/logs.rt, by upgraded_logs, and by the audits of `sasl_log`. Read in this order:
+-- ListEnds: lists by their last element. DecidedFacts: decidable facts, combined. lines: the texts of lines.
+-- demands: the challenge, the outcome and the reply that are demanded. state_machine: logs of version 1, line by line.
+-- many_sessions: logs of version 2, line by line. completions: each front begins a clean log. kinds: each log has one answer.
+-- session_laws: the sessions of a clean log. upgraded_logs: a log of version 1, with numbers. outcome_laws: where the server's lines stand.
+-- login_laws: the logins of a log. reply_laws: the counters that passed. reason_laws: what may replace the line at fault.
+-- small_logs: logs of a few lines.
 pub mod ListEnds
 pub mod DecidedFacts
 pub mod completions
