@@ -1,4 +1,9 @@
--- Lemmas that the proofs of this crate and of those above it cite.
+-- Main lemma, `accepts_exactly_valid` (Verdicts): acceptance is due if and only if the login is valid.
+-- Cited by the law of that name, in DueMessages, and by login_laws and outcome_laws of `log_grammar`. Read in this order:
+-- Opening: two texts open a login in at most one way. Verdicts: at most one verdict is due. Decided: some verdict is due.
+-- Servers: the challenge that a server sends opens a login. Challenges: which challenges a client answers.
+-- Written: what a server writes is within the limits. client_messages: what a client writes. HonestLogins: honest logins succeed.
+-- DueMessages: the message due makes a valid login if and only if it accepts; `ServerWait::judge` and `ServerWait::finish` cite it.
 pub mod Challenges
 pub mod client_messages
 pub mod Decided
