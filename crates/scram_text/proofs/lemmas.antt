@@ -1,4 +1,12 @@
--- Lemmas that the proofs of this crate and of those above it cite.
+-- Main lemmas, `has_one_client_first`, `has_one_server_first`, `has_one_client_final` and `has_one_server_final`, each in its message's
+-- file: a text is such a message with at most one list of parts.
+-- Cited by the laws of these names, and by `scram_ends`, `log_grammar`, `sasl_log`, `sasl_desk` and `c_library`. Read in this order:
+-- ListEnds: lists by their ends. WithoutByte: bytes without a certain one. CutAtByte: a cut at a byte. SplitLines: cuts at each LF.
+-- FirstUnmet: the first row of a table that is not met. Parts: a text, cut at its commas. PartsUtf8: its parts are UTF-8.
+-- Base64Texts, Base64: the base64 of bytes. Counts: decimals. AttrVals: a letter, `=` and a value. Places: parts and their places.
+-- Extensions: the extensions that are left. MextAndRest: a mandatory extension and the rest. ReadMessages: a reader reads each message.
+-- ClientFirst, ServerFirst, ClientFinal, ServerFinal: the parts of each message. Names: how a name is spelled. Texts: UTF-8 without NUL.
+-- Decided, NamesDecided: decidable parts and names. messages_composed: messages that are written. messages_decided: decidable messages.
 pub mod AttrVals
 pub mod Base64
 pub mod Base64Texts
