@@ -6,7 +6,7 @@ use Rattle.clap.specs.Kinds.{check_kinds, or_else}
 use Rattle.clap.specs.Simple.{argument_words, entered, label_of, names_of, rows_at}
 use Rattle.clap.specs.Walk.{Held, Names, answers_to, finished, nothing_held, settled, stop_after, walk, walk_from}
 use Rattle.clap.specs.Words.{App, Kinds, Row, Shape, Text, built, fault_of, subcommand_of}
-use Rattle.command_words.specs.Commands.CommandName.{Keys, Enrol, Code, Verify, Unlock, Login, Hall, Audit, Upgrade}
+use Rattle.command_words.specs.Commands.CommandName.{Keys, Enrol, Code, Verify, Unlock, Login, Hall, Audit, Report, Upgrade}
 use Rattle.command_words.specs.Commands.{CommandName, NamesCommand, program, word_of}
 
 -- if two steps find no error, the second finds none
@@ -87,7 +87,7 @@ IsCommandWord name = (command : CommandName) × (name ≡ word_of command)
 
 -- all commands of the program
 abbrev all_commands : List CommandName
-all_commands = Keys ∷ Enrol ∷ Code ∷ Verify ∷ Unlock ∷ Login ∷ Hall ∷ Audit ∷ Upgrade ∷ []
+all_commands = Keys ∷ Enrol ∷ Code ∷ Verify ∷ Unlock ∷ Login ∷ Hall ∷ Audit ∷ Report ∷ Upgrade ∷ []
 
 -- each word of these commands is the word of a command
 each_is_command_word : (commands : List CommandName) → Each IsCommandWord (map word_of commands)

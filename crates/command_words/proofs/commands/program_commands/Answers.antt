@@ -22,5 +22,6 @@ returns c =
     let six = app_has_added_command _ _ _ _ _ _ c.in_ok-subcommand-6.ensures five c.in_ok-login.ensures in
     let seven = app_has_added_command _ _ _ _ _ _ c.in_ok-subcommand-7.ensures six c.in_ok-hall.ensures in
     let eight = app_has_added_command _ _ _ _ _ _ c.in_ok-subcommand-8.ensures seven c.in_ok-audit.ensures in
-    IfOk-weaker c.subcommand-9.result _ _
-    (λ command added. app_has_added_command _ _ _ _ _ _ added eight c.in_ok-upgrade.ensures) c.subcommand-9.ensures
+    let nine = app_has_added_command _ _ _ _ _ _ c.in_ok-subcommand-9.ensures eight c.in_ok-report.ensures in
+    IfOk-weaker c.subcommand-10.result _ _
+    (λ command added. app_has_added_command _ _ _ _ _ _ added nine c.in_ok-upgrade.ensures) c.subcommand-10.ensures
