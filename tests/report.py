@@ -139,14 +139,4 @@ def other_files(folder: str) -> None:
     running.ends(0, "3 1 left - - - -\nclean sessions=1 accepted=0 codes=0\n")
 
 
-suite.run_all([
-    rows_of_table,
-    an_incident,
-    a_full_hall,
-    a_hyphen,
-    rows_that_are_asked_for,
-    bad_values,
-    cut_logs,
-    rows_as_they_come,
-    other_files,
-])
+suite.run_all()
