@@ -5,9 +5,10 @@ events of a hall, a few edits from good ones.
 Every run has to end within 2 seconds of processor time, not by a signal, with status 0, 1 or 2 and a documented fault. If a
 command accepts its input, Python checks what follows: the code (RFC 4226, RFC 6238) and the keys (RFC 5802); the replies to lines and the
 token that they leave, by token_model.py; the text of the book, with tomllib, and that a second save leaves it as it is; that a log's lines
-before the one at fault begin a clean log, and that an upgraded log has the same answer; and that the log of a hall's events is clean. An
-input with any other result, or that the program accepts and Python does not, is kept as a file fuzz-KIND-SEED-NUMBER in the folder in which
-the script was started, and ends its test. Some inputs of each kind have to be accepted, so that not only refusals are tested.
+before the one at fault begin a clean log, that a report has the rows of these which log_reader.py finds, and that an upgraded log has the
+same answer; and that the log of a hall's events is clean. An input with any other result, or that the program accepts and Python does not,
+is kept as a file fuzz-KIND-SEED-NUMBER in the folder in which the script was started, and ends its test. Some inputs of each kind have to
+be accepted, so that not only refusals are tested.
 
 COUNT in the environment, by default 300, is how many inputs of each kind are tried. Each is made from SEED, by default 1, and its own
 number.
@@ -26,15 +27,17 @@ from typing import Any
 
 import suite
 from checks import equal, fail, holds
-from expected import AUDITS, AUTH, BOOK_FAULTS, MECHS, RESP, code, keys_of, numbered
+from expected import AUDITS, AUTH, BOOK_FAULTS, DATA, MECHS, RESP, code, keys_of, numbered
 from limits import limit
+from log_reader import report_of
 from processes import LIMIT, processor_time
-from suite import BOOK_OF_USER, MEMORY, PROGRAM, SEED
+from suite import BOOK_OF_USER, MEMORY, PROGRAM, SEED, read_book
 from token_model import MOST_COUNTER, code_of, firsts_of_pairs, judged, step_at, window
 
 COUNT = int(os.environ.get("COUNT") or 300)
 
 BOOKS = sorted(BOOK_FAULTS.glob("*.toml"))
+INCIDENT = DATA / "reports" / "incident.log"
 # The most processor time of a run, whatever else the machine does.
 SECONDS = limit(2)
 
@@ -67,9 +70,11 @@ def run(words: list, data: bytes = b"") -> tuple[int, bytes]:
     except subprocess.TimeoutExpired:
         fail([words], ["it does not end"])
     holds(processor_time() - before <= SECONDS, words, "too long")
-    # `audit` answers with a log's line at fault on standard output; `upgrade` has no answer, and reports the line as a fault.
-    told, other = (done.stdout, done.stderr) if words[0] == "audit" else (done.stderr, done.stdout)
-    is_of_log = words[0] in ("audit", "upgrade") and done.returncode == 1 and re.fullmatch(OF_A_LOG, told)
+    # `audit` answers with a log's line at fault on standard output, and `report` after its rows; `upgrade` has no answer, and reports the
+    # line as a fault.
+    told, other = (done.stderr, done.stdout) if words[0] == "upgrade" else (done.stdout, done.stderr)
+    last = told[told[:-1].rfind(b"\n") + 1:] if words[0] == "report" else told
+    is_of_log = words[0] in ("audit", "report", "upgrade") and done.returncode == 1 and re.fullmatch(OF_A_LOG, last)
     if is_of_log:
         holds(other == b"", "it says more than what is wrong with the log", words, done)
         return done.returncode, told
@@ -165,6 +170,7 @@ def a_log(folder: pathlib.Path, chosen: random.Random) -> Iterator[str | bytes]:
     words = ["audit", "--book", AUDITS / chosen.choice(["keys.toml", "hotp.toml", "sha256.toml", "sync.toml"]), "--log", log]
     log.write_bytes(text)
     status, answer = run(words)
+    reports(words, text, status, answer)
     upgraded, other = run(["upgrade", "--log", log])
     if upgraded == 0 and b"\nSCRAMLOG" not in text:
         log.write_bytes(other)
@@ -182,6 +188,25 @@ def a_log(folder: pathlib.Path, chosen: random.Random) -> Iterator[str | bytes]:
     cut_there = (1, b"line %d: cut\n" % line)
     holds(front == cut_there or is_clean(front) and line > 1, "the lines before", answer, front)
     yield "the lines before a fault"
+
+
+def reports(words: list, text: bytes, status: int, answer: bytes) -> None:
+    """Runs a report of a log with this text, of which an audit with these words has had this answer. Its rows have to be those by
+    log_reader.py."""
+    due = report_of(read_book(words[2]), text, answer.decode().removesuffix("\n"))
+    equal(run(["report", *words[1:]]), (status, due.encode()), "the report")
+
+
+def a_report(folder: pathlib.Path, chosen: random.Random) -> Iterator[str | bytes]:
+    """A log a few edits from that of an incident, which has most kinds of rows: a report has those of the lines before the one at fault."""
+    whole, log = INCIDENT.read_bytes(), folder / "log"
+    text = altered(chosen, whole, [whole])
+    yield text
+    log.write_bytes(text)
+    words = ["audit", "--book", INCIDENT.with_suffix(".toml"), "--log", log]
+    answer = run(words)
+    reports(words, text, *answer)
+    yield "a clean log" if is_clean(answer) else "a log at fault"
 
 
 def is_clean(answer: tuple[int, bytes]) -> bool:
@@ -380,7 +405,10 @@ def a_hall(folder: pathlib.Path, chosen: random.Random) -> Iterator[str | bytes]
         book.write_bytes(opening)
         status, printed = run(["hall", "--book", book], b"".join(line + b"\n" for line in lines))
         log.write_bytes(printed)
-        return status, printed, run(["audit", "--book", before, "--log", log])
+        words = ["audit", "--book", before, "--log", log]
+        answer = run(words)
+        reports(words, printed, *answer)
+        return status, printed, answer
 
     status, printed, answer = heard(events)
     lines = printed.splitlines()
@@ -433,6 +461,11 @@ def books(folder: str) -> None:
 def recorded_logs(folder: str) -> None:
     """A log that is a few edits from a recorded one is clean before the line at fault, and has the same answer once it is upgraded."""
     tried(a_log, an_upgraded_log=25, a_clean_log=100, the_lines_before_a_fault=2)
+
+
+def reported_logs(folder: str) -> None:
+    """A report of a log that is a few edits from that of an incident has the rows of the lines before the fault."""
+    tried(a_report, a_clean_log=100, a_log_at_fault=2)
 
 
 def codes(folder: str) -> None:

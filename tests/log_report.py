@@ -1,15 +1,13 @@
 #!/usr/bin/env python3
 """Makes reports of logs with `tools/log-report`: who was let in, who was refused and why, as rows, as a table and as a page.
 
-The rows of data/audits/cases.csv, in the column `rows`, and those of data/reports/incident.rows were worked out by hand, as were the
-reasons in the tables below; proofs and codes are computed with Python's hmac. The log of the incident has each event but `busy`, and each
-reason, in sessions that interleave. Pages are read with Python's html.parser, and opened in Chromium if that is installed.
+The rows are those of `scramotp report`, which report.py tests. What a table and a page have to say of an incident was worked out by hand,
+from data/reports/incident.rows. Pages are read with Python's html.parser, and opened in Chromium if that is installed.
 """
 import csv
 import hashlib
 import html.parser
 import io
-import itertools
 import json
 import os
 import re
@@ -17,31 +15,24 @@ import shutil
 import signal
 import stat
 import sys
-import tomllib
 from pathlib import Path
 from typing import Any
 
-import expected
 import picture
 import suite
 from audit_cases import TABLE
 from checks import equal, holds
 from clients import Account, book, dealt, escaped, gone, logged_in
-from expected import AUDITS, MECHS, base64_of, decoy_salt, edited_texts, numbered
+from expected import AUDITS, MECHS, base64_of, edited_texts
 from picture import INCIDENT, TOOL
-from processes import Answer, ran
-from suite import PROGRAM, SEEDS, TOP, code, each, has, hotp, program_on_path, totp
-
-sys.path.insert(0, str(TOP / "hosts"))
-from scramotp_host.rows import rows
+from processes import Answer, Running, ran, sleeps, until
+from suite import each, has, program_on_path
 
 ROWS_OF_INCIDENT = INCIDENT.with_suffix(".rows").read_text().splitlines()
 BOOK_OF_INCIDENT = INCIDENT.with_suffix(".toml")
 ANSWER_OF_INCIDENT = "clean sessions=23 accepted=5 codes=3"
-# What a report may have as events and as reasons, apart from moments and counters.
-EVENTS = {"accepted", "refused", "passed", "failed", "locked", "no-token", "left", "busy", "halted"}
-REASONS = {"mechanism", "grammar", "mandatory", "binding", "name", "encoding", "extensions", "nonce", "channel", "no-account", "no-keys"}
-REASONS |= {"proof", "acts-as", "aborted", "bad-line"}
+# The first line of a table for other programs.
+HEAD = "line,session,event,account,acts_as,mechanism,reason,opened,client"
 
 
 def report(folder: str | Path, *words: str | Path, **how: Any) -> Answer:
@@ -64,53 +55,9 @@ def reported(folder: str | Path, of_log: str | Path, log: str | Path) -> tuple[i
     return status, [row_text(row) for row in found], last["audit"]
 
 
-def rows_of(of_log: str | Path, log: bytes, lines: int | None = None) -> list[str]:
-    """The rows of the first lines of a log, or of all."""
-    found = rows(tomllib.loads(Path(of_log).read_text()), io.BytesIO(log), lines)
-    return [row_text(row._asdict()) for row in found]
-
-
-def recorded_logs(folder: str) -> None:
-    """Each log that the audits are tested with has its rows, up to the line at fault. A log of version 1 has the same with numbers."""
-    log = Path(folder, "log")
-    for trial, (row, text) in each(edited_texts(TABLE, "log", ".log")):
-        with trial:
-            of_log, due = AUDITS / f"{row['book']}.toml", row["rows"].split("\\n") if row["rows"] else []
-            log.write_bytes(text)
-            is_clean = row["answer"].startswith("clean ")
-            equal(reported(folder, of_log, log), (int(not is_clean), due, row["answer"]), row["shows"])
-            if is_clean and text.startswith(b"SCRAMLOG 1\n"):
-                equal(rows_of(of_log, numbered(text.decode()).encode()), due, "with numbers", row["shows"])
-
-
 def an_incident(folder: str) -> None:
-    """A log with each event and each reason has its rows."""
+    """A log with each event but one, and each reason, has its rows."""
     equal(reported(folder, BOOK_OF_INCIDENT, INCIDENT), (0, ROWS_OF_INCIDENT, ANSWER_OF_INCIDENT), "the incident")
-    words = [row.split(" ") for row in ROWS_OF_INCIDENT]
-    equal({it[2] for it in words}, EVENTS - {"busy"}, "the events")
-    equal({it[6] for it in words if it[2] == "refused"}, REASONS, "the reasons")
-
-
-def cut_logs(folder: str) -> None:
-    """Of a log that ends after any of its bytes, what its whole lines have decided is reported, and nothing else."""
-    text, log = INCIDENT.read_bytes(), Path(folder, "log")
-    decided = [int(row.split(" ")[0]) for row in ROWS_OF_INCIDENT]
-    for size in range(len(text)):
-        whole = text[:size].count(b"\n")
-        equal(rows_of(BOOK_OF_INCIDENT, text[:size], whole), ROWS_OF_INCIDENT[:sum(at <= whole for at in decided)], "bytes", size)
-    lines = text.splitlines(keepends=True)
-    for trial, (at, is_whole) in each(itertools.product(decided[::6], [False, True])):
-        with trial:
-            log.write_bytes(b"".join(lines[:at]) if is_whole else b"".join(lines[:at])[:-1])
-            due = ROWS_OF_INCIDENT[:decided.index(at) + is_whole]
-            equal(reported(folder, BOOK_OF_INCIDENT, log), (1, due, f"line {at + is_whole}: cut"), "cut after line", at)
-
-
-def a_full_hall(folder: str) -> None:
-    """A session that is turned away while 64 are open has a row."""
-    log = Path(folder, "log")
-    log.write_text("SCRAMLOG 2\n" + "".join(f"{number} {MECHS}\n" for number in range(1, 65)) + "65 S BUSY\n65 E\n1 C GONE\n1 E\n")
-    equal(reported(folder, AUDITS / "keys.toml", log), (1, ["66 65 busy - - - -", "68 1 left - - - -"], "line 70: cut"), "a full hall")
 
 
 # The tags and attributes of a page.
@@ -118,15 +65,6 @@ TAGS = set("html meta title style script main h1 h2 section p strong code dl dt 
 TAGS |= set("details summary table thead tbody tr th td label input".split())
 ATTRIBUTES = set("lang charset http-equiv content name id class hidden for type autocomplete viewbox role aria-labelledby x y".split())
 ATTRIBUTES |= {"scope", "width", "height", "x1", "x2", "y1", "y2"}
-USER = Account("user", "SCRAM-SHA-1")
-# Tokens that have moved on: the next counter of a fob is 1500, and the last step of a phone, whose window is two steps wide, was 101.
-FOB = hotp(look_ahead=0, limit=9).replace("next = 0", "next = 1500").replace("look_ahead = 0", "look_ahead = 0\nsync_ahead = 0")
-PHONE = totp(limit=9, function="sha256").replace("back = 0", "back = 1").replace("drift = 0", "drift = 0\nlast = 101")
-
-
-def step_code(step: int) -> str:
-    """The code of that phone for a step."""
-    return expected.code(bytes.fromhex(SEEDS["sha256"]), step, 8, "sha256")
 
 
 def hostile_log(folder: str | Path, accounts: list[Account]) -> tuple[Path, Path]:
@@ -136,115 +74,6 @@ def hostile_log(folder: str | Path, accounts: list[Account]) -> tuple[Path, Path
     visits = [[*logged_in(it, "fyko", "own"), gone()] for it in accounts]
     log.write_text(dealt([number for number, visit in enumerate(visits) for _ in visit], visits)[1])
     return of_log, log
-
-
-def session(first: str, *more: str) -> str:
-    """A log of one session, whose client begins with this message."""
-    return "\n".join(("SCRAMLOG 1", MECHS, f"C AUTH SCRAM-SHA-1 :{escaped(first)}", *more, "E\n"))
-
-
-def first_messages(folder: str) -> None:
-    """A first message is refused for the first of the reasons that hold; one that is at the edge of the grammar is taken up. The names in
-    it are told if they are plain, also if it is refused."""
-    log, of_log = Path(folder, "log"), Path(folder, "book.toml")
-    of_log.write_text(book([USER], False))
-    most = "a" * 255
-    for trial, (first, names, reason) in each([
-        ("p=x,,m=y,n=\x7f,r=a", "- -", "mandatory"),
-        ("n,,n=user,r=a,x=y,m=z", "user -", "mandatory"),
-        ("p=x,a=\x7f,n=us=2Cer,r=a", "us,er -", "binding"),
-        ("n,,n=" + most + "a,r=a", "- -", "name"),
-        ("n,a=\xe9,n=user,r=a", "user -", "name"),
-        ("n,a=root,n=\x7f,r=a", "- root", "name"),
-        ("n,a=,n=user,r=a", "- -", "grammar"),
-        ("n,,n=user,m=y,r=a", "- -", "grammar"),
-        ("n,,n=a=2c,r=a", "- -", "grammar"),
-        ("n,,n=user,r=", "- -", "grammar"),
-        ("n,,n=user,r=" + "a" * 257, "- -", "grammar"),
-        ("n,,n=user,r=a,", "- -", "grammar"),
-        ("n,,n=user,r=a,x=", "- -", "grammar"),
-        ("n,,n=user,r=a,x=\0", "- -", "grammar"),
-        ("n,,n=user,r=a,x=" + "y" * 2033, "- -", "grammar"),
-        ("N,,n=user,r=a", "- -", "grammar"),
-        ("p=,,n=user,r=a", "- -", "grammar"),
-    ]):
-        with trial:
-            log.write_text(session(first, "S NO :"))
-            clean = (0, [f"4 1 refused {names} SCRAM-SHA-1 {reason}"], "clean sessions=1 accepted=0 codes=0")
-            equal(reported(folder, of_log, log), clean, first[:60])
-    for trial, (first, account, names) in each([
-        ("n,,n=" + most + ",r=" + "a" * 256, most, f"{most} -"),
-        ("y,a=x=2Cy=3D2C,n=a b%,r=a,M=1", "a b%", "a%20b%25 x,y=2C"),
-        ("n,a=--,n=-,r=a,x=" + "y" * 2031, "-", "%2D --"),
-    ]):
-        with trial:
-            nonce = first.partition(",r=")[2].partition(",")[0]
-            log.write_text(session(first, f"S CONT :r={nonce}b,s={base64_of(decoy_salt(account))},i=4096", "C GONE"))
-            clean = (0, [f"5 1 left {names} SCRAM-SHA-1 -"], "clean sessions=1 accepted=0 codes=0")
-            equal(reported(folder, of_log, log), clean, first[:60])
-    log.write_text(session("n,,n=user,r=a", "S NO :").replace("SCRAM-SHA-1 :", "SCRAM-SHA-512 :"))
-    clean = (0, ["4 1 refused user - SCRAM-SHA-512 mechanism"], "clean sessions=1 accepted=0 codes=0")
-    equal(reported(folder, of_log, log), clean, "a mechanism that is not offered")
-
-
-def last_messages(folder: str) -> None:
-    """A last message is refused for the first of the reasons that hold."""
-    log, of_log = Path(folder, "log"), Path(folder, "book.toml")
-    of_log.write_text(book([USER], False))
-    it = USER.exchange("fyko", "own")
-    bare, wrong = it.first.removeprefix("n,,"), base64_of(bytes(20))
-    for trial, (name, acts_as, final, answer, reason) in each([
-        ("user", "root", "r=other", "invalid-encoding", "encoding"),
-        ("user", "root", f"c=biws,r=fykoown,p={wrong},", "invalid-encoding", "encoding"),
-        ("user", "root", f"c=biwt,r=fykoown,p={base64_of(bytes(65))}", "invalid-encoding", "encoding"),
-        ("user", "root", f"c=biws,r=other,m=1,p={wrong}", "extensions-not-supported", "extensions"),
-        ("nobody", "root", f"c=biws,r=fykoow,p={wrong}", "other-error", "nonce"),
-        ("nobody", "root", f"c=biws,r=fykoown,p={wrong}", "channel-bindings-dont-match", "channel"),
-        ("nobody", "root", f"c=bixhPXJvb3Qs,r=fykoown,p={wrong}", "invalid-proof", "no-account"),
-        ("user", "root", f"c=bixhPXJvb3Qs,r=fykoown,p={wrong}", "invalid-proof", "proof"),
-        ("user", "", f"c=biws,r=fykoown,p={base64_of(b'x')}", "invalid-proof", "proof"),
-        ("user", "", it.wrong_final, "invalid-proof", "proof"),
-    ]):
-        with trial:
-            header = f"n,{acts_as and f'a={acts_as}'},"
-            challenge = it.challenge if name == "user" else f"r=fykoown,s={base64_of(decoy_salt(name))},i=4096"
-            more = f"S CONT :{escaped(challenge)}", f"C RESP :{escaped(final)}", f"S NO :e={answer}"
-            log.write_text(session(header + bare.replace("n=user", f"n={name}"), *more))
-            due = [f"6 1 refused {name} {acts_as or '-'} SCRAM-SHA-1 {reason}"]
-            equal(reported(folder, of_log, log), (0, due, "clean sessions=1 accepted=0 codes=0"), final)
-
-
-def spent_codes(folder: str) -> None:
-    """A code that fails is told as spent if its counter is one of the thousand before the next one, or a step of the window that is not
-    after the last step that has passed. Of two codes in a row the first has to be of such a counter."""
-    log, of_log = Path(folder, "log"), Path(folder, "book.toml")
-    it = USER.exchange("fyko", "own")
-    for trial, (token, said, moment, is_spent) in each([
-        (FOB, f"CODE {code(1501)}", 5, False),
-        (FOB, f"CODE {code(1499)}", 5, True),
-        (FOB, f"CODE {code(500)}", 5, True),
-        (FOB, f"CODE {code(499)}", 5, False),
-        (FOB, f"CODE {code(1499)}x", 5, False),
-        (FOB, f"SYNC {code(1499)} {code(1500)}", 5, True),
-        (FOB, f"SYNC {code(500)} {code(501)}", 5, True),
-        (FOB, f"SYNC {code(499)} {code(500)}", 5, False),
-        (FOB, f"SYNC {code(1498)} {code(1500)}", 5, False),
-        (PHONE, f"CODE {step_code(100)}", 3000, True),
-        (PHONE, f"CODE {step_code(99)}", 3000, True),
-        (PHONE, f"CODE {step_code(98)}", 3000, False),
-        (PHONE, f"CODE {step_code(101)}", 3029, True),
-        (PHONE, f"CODE {step_code(102)}", 3029, False),
-        (PHONE, f"CODE {step_code(100)}", 3100, False),
-        (PHONE, f"SYNC {step_code(100)} {step_code(101)}", 3000, False),
-        (PHONE.replace("t0 = 0", "t0 = 3001"), f"CODE {step_code(0)}", 3000, False),
-    ]):
-        with trial:
-            of_log.write_text(book([USER], False) + token)
-            lines = f"S CONT :{it.challenge}", f"C RESP :{it.final}", f"S OK :v={it.signature}", f"C {said}", f"S FAIL {moment}", "C GONE"
-            log.write_text(session(it.first, *lines))
-            rest = f"8 1 failed user - SCRAM-SHA-1 {moment} {'spent' if is_spent else '-'}"
-            due = (0, ["6 1 accepted user - SCRAM-SHA-1 -", rest], "clean sessions=1 accepted=1 codes=0")
-            equal(reported(folder, of_log, log), due, said, moment)
 
 
 def a_table(folder: str) -> None:
@@ -465,16 +294,14 @@ def clients_that_are_not_known(folder: str) -> None:
 
 def faults(folder: str) -> None:
     """What can't be read or written is told, with the status that an audit has."""
-    log, nothing, fifo = Path(folder, "log"), Path(folder, "nothing"), Path(folder, "fifo")
+    log, nothing = Path(folder, "log"), Path(folder, "nothing")
     log.write_bytes((AUDITS / "sha1.log").read_bytes())
     of_log = AUDITS / "keys.toml"
-    os.mkfifo(fifo)
     for trial, (words, status, fault) in each([
         ([nothing, log], 3, f"scramotp: cannot read {nothing}\n"),
         ([of_log, nothing], 3, f"scramotp: cannot read {nothing}\n"),
         ([log, log], 1, "scramotp: bad book: 60\n"),
-        ([of_log, folder], 3, f"log-report: {folder} is read twice, so it has to be a file\n"),
-        ([of_log, fifo], 3, f"log-report: {fifo} is read twice, so it has to be a file\n"),
+        ([log, log, "--csv"], 1, "scramotp: bad book: 60\n"),
         ([of_log, log, "-o", nothing / "page"], 3, f"log-report: [Errno 2] No such file or directory: '{nothing}/page'\n"),
         ([of_log, log, "-o", "/dev/full"], 3, "log-report: [Errno 28] No space left on device\n"),
         (["-h"], 0, ""),
@@ -485,6 +312,8 @@ def faults(folder: str) -> None:
             answer = report(folder, *words)
             equal((answer.status, answer.faults[-len(fault):] if fault else answer.faults), (status, fault), words)
             equal(answer.output == "", status != 0, "whether nothing is printed", words)
+    unread = report(folder, of_log, folder)
+    equal((unread.status, unread.output.splitlines()[-1], unread.faults), (3, "read fault", ""), "a folder as log")
     with open("/dev/full", "w") as full:
         status, _, told = report(folder, of_log, log, stdout=full)
     equal((status, told), (3, "log-report: [Errno 28] No space left on device\n"), "a full device")
@@ -504,9 +333,11 @@ def a_page_in_the_place_of_another(folder: str) -> None:
     holds("old text" not in page.read_text(), "the other file's text is left")
     log = Path(folder, "log")
     log.write_bytes(many_sessions(3000))
-    piped = f'"{TOOL}" "{AUDITS}/keys.toml" "{log}" | head -n 1; echo "${{PIPESTATUS[0]}}"'
-    early = ran(["bash", "-c", piped], env=program_on_path(folder))
-    equal(early, (0, f"SESSION  OUTCOME\n{128 + signal.SIGPIPE}\n", ""), "a reader that ends early")
+    for trial, (option, first) in each([("", "SESSION  OUTCOME"), ("--csv", HEAD)]):
+        with trial:
+            piped = f'"{TOOL}" "{AUDITS}/keys.toml" "{log}" {option} | head -n 1; echo "${{PIPESTATUS[0]}}"'
+            early = ran(["bash", "-c", piped], env=program_on_path(folder))
+            equal(early, (0, f"{first}\n{128 + signal.SIGPIPE}\n", ""), "a reader that ends early")
 
 
 def many_sessions(count: int) -> bytes:
@@ -514,31 +345,46 @@ def many_sessions(count: int) -> bytes:
     return b"SCRAMLOG 2\n" + b"".join(b"%d %b\n%d C GONE\n%d E\n" % (it, MECHS.encode(), it, it) for it in range(1, count + 1))
 
 
-def other_audits(folder: str) -> None:
-    """If the log grows after the audit has begun, what is added is not told. If it is no longer what was audited, or the audit's answer is
-    one that is not known, the tool says so; if a read failed, it tells nothing of the log."""
-    log, other = Path(folder, "log"), Path(folder, "other", "scramotp")
+def a_log_that_is_written(folder: str) -> None:
+    """The log may be a pipe, which another program still writes. What LOG.clients gets meanwhile is told too."""
+    log, clients = Path(folder, "log"), Path(folder, "log.clients")
+    os.mkfifo(log)
+    clients.write_text("1 open 2026-11-30T04:10:00Z uid=1\n")
+    first, *lines = many_sessions(2).splitlines(keepends=True)
+    running = Running([TOOL, AUDITS / "keys.toml", log, "--csv"], env=program_on_path(folder))
+    tool = Path("/proc", str(running.process.pid))
+    with open(log, "wb", 0) as pipe:
+        pipe.write(first + b"".join(lines[:3]))
+        until(lambda: clients in map(Path.resolve, Path(tool, "fd").iterdir()) and sleeps(running.process.pid), "the tool should wait")
+        with open(clients, "a") as file:
+            file.write("2 open 2026-11-30T04:10:01Z uid=2\n")
+        pipe.write(b"".join(lines[3:]))
+    rows = "3,1,left,,,,,2026-11-30T04:10:00Z,uid=1\n6,2,left,,,,,2026-11-30T04:10:01Z,uid=2\n"
+    running.ends(0, f"{HEAD}\n{rows}")
+
+
+def odd_answers(folder: str) -> None:
+    """What the program prints has to have a form that is known. If it has been killed, the status is that for a fault. A log that can't be
+    read to its end has the rows before that."""
+    other = Path(folder, "other", "scramotp")
     other.parent.mkdir()
-    text = (AUDITS / "sha1.log").read_bytes()
-    added = text.partition(b"\n")[2]
-    changed = "log-report: the book or the log has changed since the audit: the log accepts a login without a name\n"
-    one = ["6 1 accepted user - SCRAM-SHA-1 -"]
-    for trial, (script, status, due, fault) in each([
-        (f'{PROGRAM} "$@"; cat {folder}/added >>{log}', 0, one, ""),
-        (f'{PROGRAM} "$@"; sed -i "s/n,,n=/n,,m=/" {log}', 3, [], changed),
-        (f'{PROGRAM} "$@"; : >{log}', 0, [], ""),
-        ("echo read fault; exit 3", 3, [], ""),
-        ("echo line 7: odd; exit 1", 3, [], "log-report: scramotp audit answers in an unknown form: line 7: odd\n"),
-        ("kill -KILL $$", 3, [], ""),
+    row, odd = "3 1 left - - - -", "log-report: scramotp report prints what is not known here: "
+    for trial, (script, status, last, fault) in each([
+        ("echo line 7: odd; exit 1", 3, None, f"{odd}line 7: odd\n"),
+        (f"echo {row}; echo 4 1 refused - - - tired; exit 1", 3, 3, f"{odd}4 1 refused - - - tired\n"),
+        (f"echo read fault; echo {row}; exit 3", 3, None, f"{odd}read fault\n"),
+        ("kill -KILL $$", 3, None, ""),
+        (f"echo {row}; kill -KILL $$", 3, 3, ""),
+        (f"echo {row}; echo scramotp: no memory >&2; exit 3", 3, 3, "scramotp: no memory\n"),
+        (f"echo {row}; echo read fault; exit 3", 3, {"audit": "read fault", "status": 3}, ""),
     ]):
         with trial:
-            log.write_bytes(text)
-            Path(folder, "added").write_bytes(added)
             other.write_text(f"#!/bin/sh\n{script}\n")
             other.chmod(0o755)
-            answer = ran([TOOL, AUDITS / "keys.toml", log, "--json"], env={**os.environ, "PATH": f"{other.parent}:{os.environ['PATH']}"})
-            found = [row_text(row) for row in map(json.loads, answer.output.splitlines()) if "audit" not in row]
-            equal((answer.status, found, answer.faults), (status, due, fault), script)
+            answer = ran([TOOL, "book", "log", "--json"], env={**os.environ, "PATH": f"{other.parent}:{os.environ['PATH']}"})
+            found = [json.loads(line) for line in answer.output.splitlines()]
+            end = (found[-1] if "audit" in found[-1] else found[-1]["line"]) if found else None
+            equal((answer.status, end, answer.faults), (status, last, fault), script)
 
 
 # Runs a tool, whose path and words follow, and prints on standard error how many kilobytes of memory it has taken at most.

@@ -222,20 +222,21 @@ def sessions(version: int) -> Iterator[bytes]:
 
 
 def long_logs(folder: str) -> None:
-    """A million lines are clean, and one more byte is too many; an audit needs no more memory for them than for ten lines."""
-    words = [PROGRAM, "audit", "--book", AUDITS / "keys.toml", "--log", "/dev/stdin"]
+    """A million lines are clean, and one more byte is too many; an audit or a report needs no more memory for them than for ten lines."""
+    words = ["--book", AUDITS / "keys.toml", "--log", "/dev/stdin"]
     clean_log, long_log = (0, f"clean sessions={SESSIONS} accepted=0 codes=0\n", ""), (1, "too many lines\n", "")
-    for trial, (version, (more, answer)) in each(itertools.product([1, 2], [(b"", clean_log), (b"S", long_log)])):
+    commands = [["audit"], ["report", "--event", "busy"]]
+    for trial, (command, version, (more, answer)) in each(itertools.product(commands, [1, 2], [(b"", clean_log), (b"S", long_log)])):
         with trial:
-            run, parts = Fed(words), sessions(version)
+            run, parts = Fed([PROGRAM, *command, *words]), sessions(version)
             holds(run.feed([f"SCRAMLOG {version}\n".encode(), *itertools.islice(parts, 3)]), "the run has ended early", version)
             early = run.most_memory()
             holds(run.feed(parts), "the run has ended early", version)
             late = run.most_memory()
             run.feed([more])
-            equal(run.end(), answer, version, more)
-            holds(late - early <= MORE, f"it takes over {MORE} KiB more memory late than early", version, early, late)
-    print(f"oversized.py: 4 logs of a million lines, and a byte; the last took {late - early} KiB more than its first ten lines")
+            equal(run.end(), answer, command, version, more)
+            holds(late - early <= MORE, f"it takes over {MORE} KiB more memory late than early", command, version, early, late)
+    print(f"oversized.py: 8 logs of a million lines, and a byte; the last took {late - early} KiB more than its first ten lines")
 
 
 def endless_logs(folder: str) -> None:

@@ -538,17 +538,20 @@ def removed_logs(folder: str) -> None:
 
 
 def who_got_in(folder: str) -> None:
-    """A table of what came of each session is printed, and a page of it is written that nobody else can read. The words by which the
-    section leads through the page are on it."""
+    """The rows of the refused are printed, and a table of what came of each session; a page of it is written that nobody else can read. The
+    words by which the section leads through the page are on it."""
     Path(folder, "tools").symlink_to(TOOLS)
     with_incident(folder)
     output, page = ran(folder, REPORT).given(), Path(folder, "report.html")
-    equal(output.splitlines()[-1], "clean sessions=23 accepted=5 codes=3", "the audit", output)
+    lines = output.splitlines()
+    refused = [row for row in (DATA / "reports" / "incident.rows").read_text().splitlines() if row.split(" ")[2] == "refused"]
+    equal(lines[:len(refused) + 1], [*refused, lines[-1]], "the rows of the refused, and the audit")
+    equal(lines[-1], "clean sessions=23 accepted=5 codes=3", "the audit", output)
     holds(page.is_file(), "no page is written", output)
     equal(page.stat().st_mode & 0o777, 0o600, "the mode of the page")
     said = re.findall(r"`([a-z]+ [a-z ]+)`|(?<!\*)\*([A-Z][a-z ]+)\*(?!\*)", PAGE.sections["After an incident"])
     missing = {one or other for one, other in said if f">{one or other}<" not in page.read_text()}
-    equal((missing, len(said)), ({"scramotp audit"}, 7), "what the section says that is not on the page", said)
+    equal((missing, len(said)), ({"scramotp report"}, 7), "what the section says that is not on the page", said)
 
 
 def a_new_log_each_night(folder: str) -> None:

@@ -1,7 +1,8 @@
 #!/usr/bin/env python3
 """Refuses each request for memory of each command in turn: in one run it alone, in another also all after it. `audit` and `upgrade`, with
 logs of both versions, end with status 3 if a request that they need is refused; an audit of version 2 needs one more than an audit of
-version 1. Every command ends with `no memory` if it can't end well, and the book is whole and has what was reported before. Needs `cc`.
+version 1. A report has printed whole rows by then. Every command ends with `no memory` if it can't end well, and the book is whole and has
+what was reported before. Needs `cc`.
 """
 import itertools
 import os
@@ -11,7 +12,7 @@ import shims
 import suite
 from checks import equal, holds
 from command_table import Command, book_of, commands, is_done, is_front, is_kept, left, new_book, prepare, printed_begins_clean, run
-from expected import AUDITS
+from expected import AUDITS, DATA
 from processes import ran
 from suite import PROGRAM, each, fault_text
 
@@ -54,6 +55,22 @@ def audits_are_refused(folder: str) -> None:
             needed.append(each_is_told(folder, [*words, "log"], "clean sessions=0 accepted=0 codes=0\n"))
     equal(needed[1], needed[0] + 1, needed)
     equal(each_is_told(folder, [*words, AUDITS / "interleaved.log"], "clean sessions=2 accepted=1 codes=1\n"), needed[1], needed)
+
+
+def reports_are_refused(folder: str) -> None:
+    """A report prints whole rows, and then the fault. Some requests are refused after the first row."""
+    log, shim = DATA / "reports" / "incident.log", shims.built("refuse_memory")
+    words, rows = ["report", "--book", log.with_suffix(".toml"), "--log", log], log.with_suffix(".rows").read_text().splitlines(True)
+    *whole, requests = run_refused(folder, words, shim, 0)
+    equal(whole, [0, "".join(rows) + "clean sessions=23 accepted=5 codes=3\n", ""], "the report")
+    printed = set()
+    for trial, number in each(range(1, requests + 1)):
+        with trial:
+            *told, _ = run_refused(folder, words, shim, number)
+            if told != whole:
+                printed.add(told[1].count("\n"))
+                equal(told, [3, "".join(rows[:told[1].count("\n")]), FAULT], number)
+    holds({0} < printed, "no request is refused after a row", printed)
 
 
 def upgrades_are_refused(folder: str) -> None:

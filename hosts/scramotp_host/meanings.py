@@ -65,8 +65,6 @@ class Verdict(NamedTuple):
     to_do: str = ""
 
 
-# The most lines that an audit judges.
-MOST_LINES = 1000000
 BOOK = "See first whether the book is the copy that was made as the log began. "
 LOOK = "Believe no line from there on. Keep the log and its book as they are, and find out who could write them."
 VERDICTS = {
@@ -87,9 +85,10 @@ VERDICTS = {
         "bad", "A code was taken that is used, too old or wrong, or a right one was not; or the book is another one.", BOOK + LOOK,
     ),
     "too many lines": Verdict(
-        "partial", f"The first {MOST_LINES} lines are right, and what follows can't be audited.", "Begin a new log before one has so many.",
+        "partial", "The first 1000000 lines are right, and what follows can't be audited.",
+        "Begin a new log before one has so many.",
     ),
     "read fault": Verdict(
-        "partial", "The log could not be read to its end, so nothing is reported.", "The disk or the file system failed: try again.",
+        "partial", "The log could not be read to its end: this is of its first lines.", "The disk or the file system failed: try again.",
     ),
 }

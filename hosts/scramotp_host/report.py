@@ -1,15 +1,46 @@
-"""What a log says of each session: when, who, as whom, from where, how, and what came of it; and what an audit has said of the log."""
+"""What `scramotp report` and LOG.clients say of each session of a log: when, who, as whom, from where, how, and what came of it."""
 import re
 from collections import Counter
-from collections.abc import Callable, Collection, Iterable, Iterator
+from collections.abc import Callable, Collection, Iterable, Iterator, Mapping
 from contextlib import suppress
 from dataclasses import dataclass, field
 from datetime import datetime
+from functools import lru_cache
 from sys import intern
 from typing import NamedTuple
+from urllib.parse import unquote
 
-from scramotp_host.meanings import MEANINGS, MOST_LINES, OF_CODES, VERDICTS, Verdict
-from scramotp_host.rows import Row
+from scramotp_host.meanings import MEANINGS, OF_CODES, VERDICTS, Verdict
+
+
+class Row(NamedTuple):
+    """A row. The account, the name to act as and the mechanism are None if there is none, and the reason is `-` then."""
+
+    line: int
+    session: int
+    event: str
+    account: str | None
+    acts_as: str | None
+    mechanism: str | None
+    reason: str
+
+
+ROW = re.compile(r"([0-9]+) ([0-9]+) (\S+) (\S+) (\S+) (\S+) (.+)")
+
+
+@lru_cache(1 << 12)
+def name_of(word: str) -> str | None:
+    """The name that a word of a row spells, or None for `-`, which stands for none."""
+    return None if word == "-" else unquote(word)
+
+
+def row_of(text: str) -> Row | None:
+    """The row of this text, or None if it is none, or says what is not known here."""
+    if not (found := ROW.fullmatch(text)):
+        return None
+    line, session, event, *names, reason = found.groups()
+    row = Row(int(line), int(session), intern(event), *map(name_of, names), intern(reason))
+    return row if kind_of(row) in MEANINGS else None
 
 
 class Answer(NamedTuple):
@@ -18,12 +49,6 @@ class Answer(NamedTuple):
     text: str
     status: int
     verdict: Verdict
-
-    @property
-    def judged(self) -> int:
-        """How many lines it has found right, at most. If a read has failed, it does not say how many."""
-        found = re.match(r"line (\d+): ", self.text)
-        return int(found[1]) - 1 if found else 0 if self.text == "read fault" else MOST_LINES
 
 
 def answer_of(text: str, status: int) -> Answer | None:
@@ -93,12 +118,12 @@ def kind_of(row: Row) -> str:
     return row.reason if row.event == "refused" else row.event
 
 
-def sessions_of(rows: Iterable[Row], clients: dict[int, Opened]) -> list[Session]:
+def sessions_of(rows: Iterable[Row], clients: Mapping[int, Opened]) -> list[Session]:
     """The sessions of which there is a row, in the order in which they began."""
     found: dict[int, Session] = {}
     for row in rows:
         if row.session not in found:
-            when, client = clients.get(row.session, UNKNOWN)
+            when, client = clients[row.session]
             found[row.session] = Session(row.session, moment_of(when), client)
         found[row.session].takes(row)
     return sorted(found.values(), key=lambda it: it.number)
