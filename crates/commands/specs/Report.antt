@@ -91,6 +91,12 @@ RefusesEvent given fault =
 abbrev pub RefusesRowOptions : ArgMatches → Fault → Type 0
 RefusesRowOptions words fault = RefusesAccount (value_of words option.Account) fault ⊎ RefusesEvent (value_of words option.Event) fault
 
+-- these are the rows of the first lines of a log, if the log's bytes are known
+abbrev pub AreFirstRows : BookFields → (log : Option (List ℕ)) → List Row → Type 0
+AreFirstRows book log rows = (bytes : List ℕ) → log ≡ Some bytes
+    → (texts : List (List ℕ)) × (rest : List ℕ) × (bytes ≡ ended_by_lf texts ++ rest) × (any_version (accounts_in book)).MayBegin texts
+    × IsReportOf book texts rows
+
 -- rows of the first lines of a log in a file were printed, by a book that was read from a file
 pub record PrintsFirstRows {File : Type 0} (bytes_of : File → Option (List ℕ)) (words : ArgMatches) (old new : Option (List ℕ))
     : Type 0 where
@@ -99,9 +105,7 @@ pub record PrintsFirstRows {File : Type 0} (bytes_of : File → Option (List ℕ
   pub is_read : IsReadBook bytes_of text book
   pub log_file : File
   pub rows : List Row
-  pub are_rows : (bytes : List ℕ) → bytes_of log_file ≡ Some bytes
-      → (texts : List (List ℕ)) × (rest : List ℕ) × (bytes ≡ ended_by_lf texts ++ rest) × (any_version (accounts_in book)).MayBegin texts
-      × IsReportOf book texts rows
+  pub are_rows : AreFirstRows book (bytes_of log_file) rows
   pub printed : Appends old new (printed_rows words rows)
 
 -- a fault ends a report that has begun: the output can't be written; or memory ran out, after rows of the log's first lines were printed
