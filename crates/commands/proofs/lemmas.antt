@@ -23,5 +23,7 @@ pub mod LogSays
 pub mod Nonces
 pub mod OneEvent
 pub mod Printed
+pub mod PrintedRows
+pub mod ReportEnds
 pub mod Runs
 pub mod TakenOutputs

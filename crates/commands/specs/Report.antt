@@ -77,12 +77,25 @@ pub record PrintsReport {File : Type 0} (bytes_of : File → Option (List ℕ)) 
   pub is_status : status ≡ log_status answer
   pub printed : Appends old new (printed_rows words rows ++ printed_audit answer)
 
+-- the fault is that a value is given for `--account`, which is no name of an account
+abbrev pub RefusesAccount : (given : Option (List ℕ)) → Fault → Type 0
+RefusesAccount given fault =
+    (text : List ℕ) × (given ≡ Some text) × Refuses option.Account text × (fault ≡ BadValue option.Account)
+
+-- the fault is that a value is given for `--event`, which is no word for a kind of event
+abbrev pub RefusesEvent : (given : Option (List ℕ)) → Fault → Type 0
+RefusesEvent given fault =
+    (text : List ℕ) × (given ≡ Some text) × ((name : EventName) → text ≢ event_word name) × (fault ≡ BadValue option.Event)
+
 -- the fault is that the value of `--account` is no name of an account, or that of `--event` no word for a kind of event
 abbrev pub RefusesRowOptions : ArgMatches → Fault → Type 0
-RefusesRowOptions words fault =
-    ((text : List ℕ) × (value_of words option.Account ≡ Some text) × Refuses option.Account text × (fault ≡ BadValue option.Account))
-    ⊎ ((text : List ℕ) × (value_of words option.Event ≡ Some text) × ((name : EventName) → text ≢ event_word name)
-    × (fault ≡ BadValue option.Event))
+RefusesRowOptions words fault = RefusesAccount (value_of words option.Account) fault ⊎ RefusesEvent (value_of words option.Event) fault
+
+-- these are the rows of the first lines of a log, if the log's bytes are known
+abbrev pub AreFirstRows : BookFields → (log : Option (List ℕ)) → List Row → Type 0
+AreFirstRows book log rows = (bytes : List ℕ) → log ≡ Some bytes
+    → (texts : List (List ℕ)) × (rest : List ℕ) × (bytes ≡ ended_by_lf texts ++ rest) × (any_version (accounts_in book)).MayBegin texts
+    × IsReportOf book texts rows
 
 -- rows of the first lines of a log in a file were printed, by a book that was read from a file
 pub record PrintsFirstRows {File : Type 0} (bytes_of : File → Option (List ℕ)) (words : ArgMatches) (old new : Option (List ℕ))
@@ -92,15 +105,19 @@ pub record PrintsFirstRows {File : Type 0} (bytes_of : File → Option (List ℕ
   pub is_read : IsReadBook bytes_of text book
   pub log_file : File
   pub rows : List Row
-  pub are_rows : (bytes : List ℕ) → bytes_of log_file ≡ Some bytes
-      → (texts : List (List ℕ)) × (rest : List ℕ) × (bytes ≡ ended_by_lf texts ++ rest) × (any_version (accounts_in book)).MayBegin texts
-      × IsReportOf book texts rows
+  pub are_rows : AreFirstRows book (bytes_of log_file) rows
   pub printed : Appends old new (printed_rows words rows)
 
--- a fault ends `report`. Nothing was printed, and a value is refused, the book is not read, or the log is not opened; or the output can't
--- be written; or memory ran out, after rows of the log's first lines were printed.
+-- a fault ends a report that has begun: the output can't be written; or memory ran out, after rows of the log's first lines were printed
+abbrev pub StopsPrinting : {File : Type 0} → (bytes_of : File → Option (List ℕ)) → ArgMatches → Fault → (old new : Option (List ℕ))
+    → Type 0
+StopsPrinting bytes_of words fault old new =
+    (fault ≡ CannotWriteOutput) ⊎ ((fault ≡ MemoryRanOut) × PrintsFirstRows bytes_of words old new)
+
+-- a fault ends `report`. Nothing was printed, and a value is refused, the book is not read, or the log is not opened; or a report that has
+-- begun ends.
 abbrev pub StopsReport : {File : Type 0} → (bytes_of : File → Option (List ℕ)) → ArgMatches → Fault → (old new : Option (List ℕ)) → Type 0
 StopsReport bytes_of words fault old new =
     ((new ≡ old) × (RefusesRowOptions words fault ⊎ (CannotReadBook bytes_of (given_value words option.Book) fault
     ⊎ IsFileUnreadOrNoMemory (given_value words option.Log) fault)))
-    ⊎ ((fault ≡ CannotWriteOutput) ⊎ ((fault ≡ MemoryRanOut) × PrintsFirstRows bytes_of words old new))
+    ⊎ StopsPrinting bytes_of words fault old new

@@ -12,7 +12,7 @@ use Rattle.clap.specs.declared.parser.matches.ArgMatches.TheViews.{out-ArgMatche
 use Rattle.clap.specs.declared.parser.matches.SubCommand.{SubCommand}
 use Rattle.clap.proofs.OnLiterals.{clap_on_literals}
 use Rattle.command_line.specs.declared.fault.Fault.{Fault}
-use Rattle.command_words.specs.Commands.CommandName.{Keys, Enrol, Code, Verify, Unlock, Login, Hall, Audit, Upgrade}
+use Rattle.command_words.specs.Commands.CommandName.{Keys, Enrol, Code, Verify, Unlock, Login, Hall, Audit, Report, Upgrade}
 use Rattle.command_words.specs.Commands.{CommandName, NamesCommand, program, word_of}
 use Rattle.command_words.proofs.lemmas.Naming.{faultless_line_names_command}
 use Rattle.commands.specs.Program.{EndsBeforeFlush, EndsCommand, EndsRun, HasDone, IsWordsError, Names, RunsCommand, RunsUntil, StopsAt, exit_status, found_in}
@@ -119,19 +119,20 @@ name_is_word (Some b) name word rows is are =
 abbrev pub IsUnknownName : Text → Type 0
 IsUnknownName name =
     (name ≢ codes "keys") × (name ≢ codes "enrol") × (name ≢ codes "code") × (name ≢ codes "verify") × (name ≢ codes "unlock")
-    × (name ≢ codes "login") × (name ≢ codes "hall") × (name ≢ codes "audit") × (name ≢ codes "upgrade")
+    × (name ≢ codes "login") × (name ≢ codes "hall") × (name ≢ codes "audit") × (name ≢ codes "report") × (name ≢ codes "upgrade")
 
 -- a name that no command has is not the word of any command
 unknown_name_is_no_word : (name : Text) (command : CommandName) → IsUnknownName name → name ≡ word_of command → ⊥
-unknown_name_is_no_word name Keys (keys, enrol, code, verify, unlock, login, hall, audit, upgrade) is = keys is
-unknown_name_is_no_word name Enrol (keys, enrol, code, verify, unlock, login, hall, audit, upgrade) is = enrol is
-unknown_name_is_no_word name Code (keys, enrol, code, verify, unlock, login, hall, audit, upgrade) is = code is
-unknown_name_is_no_word name Verify (keys, enrol, code, verify, unlock, login, hall, audit, upgrade) is = verify is
-unknown_name_is_no_word name Unlock (keys, enrol, code, verify, unlock, login, hall, audit, upgrade) is = unlock is
-unknown_name_is_no_word name Login (keys, enrol, code, verify, unlock, login, hall, audit, upgrade) is = login is
-unknown_name_is_no_word name Hall (keys, enrol, code, verify, unlock, login, hall, audit, upgrade) is = hall is
-unknown_name_is_no_word name Audit (keys, enrol, code, verify, unlock, login, hall, audit, upgrade) is = audit is
-unknown_name_is_no_word name Upgrade (keys, enrol, code, verify, unlock, login, hall, audit, upgrade) is = upgrade is
+unknown_name_is_no_word name Keys (keys, enrol, code, verify, unlock, login, hall, audit, report, upgrade) is = keys is
+unknown_name_is_no_word name Enrol (keys, enrol, code, verify, unlock, login, hall, audit, report, upgrade) is = enrol is
+unknown_name_is_no_word name Code (keys, enrol, code, verify, unlock, login, hall, audit, report, upgrade) is = code is
+unknown_name_is_no_word name Verify (keys, enrol, code, verify, unlock, login, hall, audit, report, upgrade) is = verify is
+unknown_name_is_no_word name Unlock (keys, enrol, code, verify, unlock, login, hall, audit, report, upgrade) is = unlock is
+unknown_name_is_no_word name Login (keys, enrol, code, verify, unlock, login, hall, audit, report, upgrade) is = login is
+unknown_name_is_no_word name Hall (keys, enrol, code, verify, unlock, login, hall, audit, report, upgrade) is = hall is
+unknown_name_is_no_word name Audit (keys, enrol, code, verify, unlock, login, hall, audit, report, upgrade) is = audit is
+unknown_name_is_no_word name Report (keys, enrol, code, verify, unlock, login, hall, audit, report, upgrade) is = report is
+unknown_name_is_no_word name Upgrade (keys, enrol, code, verify, unlock, login, hall, audit, report, upgrade) is = upgrade is
 
 -- if a parse finds a command, the subcommand that it has entered has a known command's name
 pub found_command_is_known : (matches : ArgMatches) (name : Text) → NamesCommand (subcommand_rows_of matches)

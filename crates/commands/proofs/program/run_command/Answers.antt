@@ -1,5 +1,5 @@
 use Rattle.std.proofs.Common.{rules, refl}
-use Rattle.command_words.specs.Commands.CommandName.{Keys, Enrol, Code, Verify, Unlock, Login, Hall, Audit, Upgrade}
+use Rattle.command_words.specs.Commands.CommandName.{Keys, Enrol, Code, Verify, Unlock, Login, Hall, Audit, Report, Upgrade}
 use Rattle.command_io.proofs.lemmas.Results.{if_err_both}
 use Rattle.commands.specs.Program.{answer_status}
 use Rattle.commands.proofs.lemmas.Runs.{command_with_answer_ends, command_with_status_ends, found_command_is_known, found_command_has_name}
@@ -61,6 +61,12 @@ returns-in-Some-audit-default-clause-ends g c =
     c.audit.ensures.err c.audit.ensures.why)
     (λ _ did. did) (λ _ stopped. stopped)
 
+pub returns-in-Some-report-default-clause-ends : goal.returns-in-Some-report-default-clause-ends
+returns-in-Some-report-default-clause-ends g c =
+    command_with_status_ends Report _ _ _ c.in-Some-report-default.ensures.name c.in-Some-report-default.ensures.rows
+    c.in-Some-report-default.is-report _ _ _ _ _ c.report.result.0 c.report.ensures.printed c.report.ensures.stops (λ _ did. did)
+    (λ _ stopped. stopped)
+
 pub returns-in-Some-upgrade-default-clause-ends : goal.returns-in-Some-upgrade-default-clause-ends
 returns-in-Some-upgrade-default-clause-ends g c =
     command_with_status_ends Upgrade _ _ _ c.in-Some-upgrade-default.ensures.name c.in-Some-upgrade-default.ensures.rows
@@ -72,6 +78,7 @@ pub unreachable-requires : goal.unreachable-requires
 unreachable-requires g c = elim c.in_default.branch [
   | in_default-via-in-Some+in_default w ↦
       found_command_is_known _ w.in_default.field-0.0.now c.requires (rw w.in_default.is at c.subcommand.ensures.name)
-      (search rules, search rules, search rules, search rules, search rules, search rules, search rules, search rules, search rules)
+      (search rules, search rules, search rules, search rules, search rules, search rules, search rules, search rules, search rules,
+      search rules)
   | in_default-via-in_default w ↦ found_command_has_name _ c.requires (rw w.in_default.is at c.subcommand.ensures.name)
 ]
