@@ -4,7 +4,7 @@ since: it takes from there only what it finds by the checksum of what it would p
 
 Usage: proved.py WORD ..
 
-Runs a command that runs `rt ci`, and keeps what is proved there before the edits in must-fail/ are tried. rt does this in folders below
+Runs a command that runs `rt ci`, and keeps what is proved there as the edits in must-fail/ are tried. rt does this in folders below
 TMPDIR, which it removes in the end. The status is the command's, or 128 and the number of the signal that ended it.
 """
 import os
@@ -13,10 +13,12 @@ import shutil
 import subprocess
 import sys
 import tempfile
+import time
 from pathlib import Path
 
-# Seconds between two looks at the folders. The trial of an edit takes longer.
+# Seconds between two looks at the folders, and for how many a check has to have added nothing. The trial of an edit takes longer.
 PAUSE = 0.5
+QUIET = 5
 # A file of what was proved, which has the crate's name.
 MODULE = re.compile(r"Rattle-(\w+)-proofs")
 
@@ -69,18 +71,22 @@ def keep(source: Path, crate: str) -> None:
         print(f"what was proved of {crate} is not kept: {fault}", file=sys.stderr)
 
 
-def keep_new(rooms: Path, done: set[Path]) -> None:
-    """Keeps what is proved in the folders of rt with which trials of edits have begun, but not those that are done."""
-    for seed in set(rooms.glob("rt-edits-*/seed")) - done:
-        if any(seed.parent.glob("[0-9]*")):
-            done.add(seed)
-            names = (MODULE.match(it.name) for it in seed.glob("*/Rattle-*"))
-            if crate := next((it[1] for it in names if it), None):
-                keep(seed, crate)
+def keep_new(rooms: Path, done: dict[Path, float]) -> None:
+    """Keeps what is proved in the folders of rt for trials of edits, but not what is kept already: `done` has when each of them had last
+    changed. Kits differ in where it is: in the folder itself, or in `seed` there."""
+    for place in [*rooms.glob("rt-edits-*/antt-checked-*"), *rooms.glob("rt-edits-*/seed/antt-checked-*")]:
+        try:
+            changed = place.stat().st_mtime
+            names = [it[1] for file in place.iterdir() if (it := MODULE.match(file.name))]
+        except FileNotFoundError:
+            continue
+        if names and changed + QUIET < time.time() and done.get(place) != changed:
+            done[place] = changed
+            keep(place.parent, names[0])
 
 
 def main() -> int:
-    done: set[Path] = set()
+    done: dict[Path, float] = {}
     with tempfile.TemporaryDirectory(prefix="proved-") as rooms:
         with subprocess.Popen(sys.argv[1:], env={**os.environ, "TMPDIR": rooms}) as run:
             while True:
