@@ -77,8 +77,17 @@ returns-in-Some-upgrade-default-clause-ends g c =
 pub unreachable-requires : goal.unreachable-requires
 unreachable-requires g c = elim c.in_default.branch [
   | in_default-via-in-Some+in_default w ↦
-      found_command_is_known _ w.in_default.field-0.0.now c.requires (rw w.in_default.is at c.subcommand.ensures.name)
-      (search rules, search rules, search rules, search rules, search rules, search rules, search rules, search rules, search rules,
-      search rules)
+      found_command_is_known _ w.in_default.field-0.0.now c.requires (rw w.in_default.is at c.subcommand.ensures.name) (
+        search rules,
+        search rules,
+        search rules,
+        search rules,
+        search rules,
+        search rules,
+        search rules,
+        search rules,
+        search rules,
+        search rules,
+      )
   | in_default-via-in_default w ↦ found_command_has_name _ c.requires (rw w.in_default.is at c.subcommand.ensures.name)
 ]
