@@ -50,6 +50,8 @@ HOSTILE = [
     "$(touch ran)", "`touch ran`", "a;touch ran", "a&touch ran&", "a|touch ran", "a>ran", "a b", " a", "a ", "a'b", 'a"b', "a\\b", "a\\",
     "*", "?", "[a]", "{a,b}", "(a)", "~root", "$HOME", "a!b", "!!", "^a^b", "#a", "%s", "a=b", "a:b", "a: nothing", "user@example.org",
 ]
+# The kinds of rows that a report has.
+EVENTS = "accepted refused passed failed locked no-token left busy halted".split()
 
 
 def offered(lines: list[str], name: str = "scramotp") -> list[list[str]]:
@@ -74,6 +76,8 @@ def words(folder: str) -> None:
         ("scramotp keys --mechanism=", ["SCRAM-SHA-1", "SCRAM-SHA-256"]),
         ("scramotp code --hash ", ["sha1", "sha256", "sha512"]),
         ("scramotp code --digits ", ["6", "7", "8"]),
+        ("scramotp report --event ", EVENTS),
+        ("scramotp report --event=no", ["no-token"]),
         ("scramotp keys --count ", []),
         ("scramotp keys --count 4096 --s", ["--salt"]),
         ("scramotp keys --count=4096 --", ["--mechanism", "--salt", "--help"]),
@@ -251,6 +255,8 @@ def names_in_zsh(folder: str) -> None:
         ("scramotp verify --book book.toml --name a\\;\t", ["verify", "--book", "book.toml", "--name", "a;touch ran"]),
         ("scramotp verify --book=book.toml --name=user@\t", ["verify", "--book=book.toml", "--name=user@example.org"]),
         ("scramotp login --book 'a book.toml' --as an\t", ["login", "--book", "a book.toml", "--as", "anne"]),
+        ("scramotp report --book=book.toml --account us\t --event no\t",
+         ["report", "--book=book.toml", "--account", "user@example.org", "--event", "no-token"]),
         ("scramotp verify --book ~/a\\ book.toml --name b\t", ["verify", "--book", f"{folder}/a book.toml", "--name", "bob"]),
         ("scramotp verify --book '$(touch ran)' --name u\t", ["verify", "--book", "$(touch ran)", "--name", "u"]),
         ("scramotp hall --book non\t", ["hall", "--book", "none.toml"]),
@@ -271,6 +277,8 @@ def names_in_fish(folder: str) -> None:
         ("scramotp verify --book '$(touch ran)' --name ", []),
         ("scramotp verify --book none.toml --name ", []),
         ("scramotp u", ["unlock", "upgrade"]),
+        ("scramotp report --book book.toml --account ", HOSTILE),
+        ("scramotp report --event ", EVENTS),
     ]):
         with trial:
             words = ["fish", "--no-config", "-c", f"source {FOLDER}/scramotp.fish; complete -C $argv[1]", line]

@@ -24,6 +24,7 @@ BOOK = PAGE.block("The account book", "toml")
 LOG = PAGE.block("The lines of the protocol and of the log", "")
 NUMBERED = PAGE.block("Numbered lines", "")
 COMMANDS = PAGE.block("Many logs", "")
+REPORT = PAGE.block("The rows of a report", "")
 GRAMMAR = PAGE.block("The grammar of the lines", "abnf")
 TRANSCRIPT = DOORS.block("A session")
 LETS_IN = DOORS.block("Who has logged in", "python")
@@ -70,6 +71,13 @@ def the_logs(folder: str) -> None:
     equal(LOG, (AUDITS / "sha1.log").read_text(), "the login")
     held.audited(LOG, LOGIN)
     held.audited(NUMBERED, TWO_SESSIONS)
+
+
+def the_rows(folder: str) -> None:
+    """A report of the two sessions has these rows."""
+    held, log = suite.BookFolder(folder, BOOK), Path(folder, "log")
+    log.write_text(NUMBERED)
+    suite.prints([PROGRAM, "report", "--book", held.book, "--log", log], "", 0, REPORT)
 
 
 def many_logs(folder: str) -> None:
