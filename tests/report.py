@@ -70,10 +70,12 @@ def a_full_hall(folder: str) -> None:
 
 
 def a_hyphen(folder: str) -> None:
-    """A name that is one hyphen is not what stands for none: it is written by its number."""
+    """A name that is one hyphen, of an account or of a mechanism, is not what stands for none: it is written by its number."""
     log = pathlib.Path(folder, "log")
     log.write_text(f"SCRAMLOG 1\n{MECHS}\nC AUTH SCRAM-SHA-1 :n,a=-,m=x,n=--,r=x\nS NO :\nE\n")
     reports(KEYS, log, ["4 1 refused -- %2D SCRAM-SHA-1 mandatory"], "clean sessions=1 accepted=0 codes=0")
+    log.write_text(f"SCRAMLOG 1\n{MECHS}\nC AUTH -\nS NO :\nE\n")
+    reports(KEYS, log, ["4 1 refused - - %2D mechanism"], "clean sessions=1 accepted=0 codes=0")
 
 
 # What an audit says of a log whose only login is not accepted.
