@@ -1,8 +1,8 @@
 -- What the command `report` prints, and for which files; and what it has printed when a fault ends it.
-use Rattle.std.specs.Prelude.{ℕ, ◌≡◌, ◌≢◌, ◌⊎◌, Bool, true, false, ◌&&◌, List, ◌++◌, length, filter}
+use Rattle.std.specs.Prelude.{ℕ, ◌≡◌, ◌≢◌, ◌⊎◌, Bool, true, false, ◌&&◌, List, ◌++◌, filter}
 use Rattle.std.specs.Option.{ForSome, option_map_or}
 use Rattle.std.specs.Str.{bytes_eq}
-use Rattle.std.specs.Io.KnownBytes.{Appends}
+use Rattle.std.specs.Io.KnownBytes.{Appends, Consumes}
 use Rattle.std.specs.declared.option.Option.{Option}
 use Rattle.std.specs.declared.option.Option.TheVariants.{Some}
 use Rattle.std.specs.declared.result.Result.{Result}
@@ -18,13 +18,13 @@ use Rattle.command_line.specs.declared.option_name.OptionName.TheVariants as opt
 use Rattle.command_words.specs.Values.{value_of, given_value}
 use Rattle.log_grammar.specs.Books.{accounts_in}
 use Rattle.log_grammar.specs.Versions.{any_version}
+use Rattle.log_report.specs.HeardRows.{AreRowsBefore}
 use Rattle.log_report.specs.RowTexts.{name_of_event, event_word, rows_text}
 use Rattle.log_report.specs.Rows.{IsReportOf}
 use Rattle.log_report.specs.declared.event_name.EventName.{EventName}
 use Rattle.log_report.specs.declared.row.Row.{Row}
 use Rattle.sasl_log.specs.AuditResults.{IsAuditResult}
 use Rattle.sasl_log.specs.Source.{SourceFacts}
-use Rattle.sasl_log.specs.Telling.{AreAllBefore, IsFrontTaken}
 use Rattle.sasl_log.specs.declared.auditor.count.Clean.{Clean}
 use Rattle.sasl_log.specs.declared.auditor.why.AuditFault.{AuditFault}
 use Rattle.sasl_log.specs.declared.auditor.why.AuditFault.TheVariants.{NoMemory}
@@ -48,12 +48,6 @@ is_asked words row = option_map_or (is_of_account row) (value_of words option.Ac
 -- the texts of the rows that the words ask for
 abbrev pub printed_rows : ArgMatches → List Row → List ℕ
 printed_rows words rows = rows_text (filter (is_asked words) rows)
-
--- the rows of the lines of a log that come before what the answer names, where this is left of the log: a log may begin with these lines
-abbrev pub AreRowsBefore : BookFields → (log : Option (List ℕ)) → Result Clean AuditFault → (next : SourceFacts) → List Row → Type 0
-AreRowsBefore book log answer next rows = (texts : List (List ℕ)) × (unfinished : List ℕ)
-    × IsFrontTaken (accounts_in book) (record { left = log; failed = false }) next texts unfinished
-    × AreAllBefore answer (length texts) unfinished next × IsReportOf book texts rows
 
 -- the value of `--account`, if there is one, is a name that an account may have, and that of `--event` a word for a kind of event
 pub record AreRowOptions (words : ArgMatches) : Type 0 where
@@ -93,11 +87,10 @@ RefusesEvent given fault =
 abbrev pub RefusesRowOptions : ArgMatches → Fault → Type 0
 RefusesRowOptions words fault = RefusesAccount (value_of words option.Account) fault ⊎ RefusesEvent (value_of words option.Event) fault
 
--- these are the rows of the first lines of a log, if the log's bytes are known
+-- these are the rows of the first lines of a log, of which more may have been read
 abbrev pub AreFirstRows : BookFields → (log : Option (List ℕ)) → List Row → Type 0
-AreFirstRows book log rows = (bytes : List ℕ) → log ≡ Some bytes
-    → (texts : List (List ℕ)) × (rest : List ℕ) × (bytes ≡ ended_by_lf texts ++ rest) × (any_version (accounts_in book)).MayBegin texts
-    × IsReportOf book texts rows
+AreFirstRows book log rows = (texts : List (List ℕ)) × (more : List ℕ) × (left : Option (List ℕ))
+    × Consumes log left (ended_by_lf texts ++ more) × (any_version (accounts_in book)).MayBegin texts × IsReportOf book texts rows
 
 -- rows of the first lines of a log in a file were printed, by this book
 pub record PrintsFirstRows {File : Type 0} (bytes_of : File → Option (List ℕ)) (words : ArgMatches) (book : BookFields)
