@@ -8,6 +8,7 @@
 -- Audits: what `scramotp_audit` tells is what the audit has found.
 pub mod ActAs
 pub mod Audits
+pub mod Reports
 pub mod Challenges
 pub mod Clients
 pub mod Demands

@@ -9,4 +9,5 @@ pub mod Tokens
 pub mod Verifiers
 pub mod LogLines
 pub mod Audits
+pub mod Reports
 pub mod inner

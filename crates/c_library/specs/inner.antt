@@ -1,3 +1,4 @@
 -- What only contracts of private functions cite.
+pub mod Reports
 pub mod Verifiers
 pub mod LineDrafts

@@ -19,6 +19,7 @@ mod line_draft;
 mod log_line;
 mod names;
 mod put;
+mod report;
 mod server;
 mod text;
 mod totp;

@@ -18,7 +18,7 @@ use Rattle.command_line.specs.declared.option_name.OptionName.TheVariants as opt
 use Rattle.command_words.specs.Values.{value_of, given_value}
 use Rattle.log_grammar.specs.Books.{accounts_in}
 use Rattle.log_grammar.specs.Versions.{any_version}
-use Rattle.log_report.specs.HeardRows.{AreRowsBefore}
+use Rattle.log_report.specs.RowsBefore.{AreRowsBefore}
 use Rattle.log_report.specs.RowTexts.{name_of_event, event_word, rows_text}
 use Rattle.log_report.specs.Rows.{IsReportOf}
 use Rattle.log_report.specs.declared.event_name.EventName.{EventName}
