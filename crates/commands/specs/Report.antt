@@ -114,10 +114,14 @@ abbrev pub StopsPrinting : {File : Type 0} → (bytes_of : File → Option (List
 StopsPrinting bytes_of words fault old new =
     (fault ≡ CannotWriteOutput) ⊎ ((fault ≡ MemoryRanOut) × PrintsFirstRows bytes_of words old new)
 
--- a fault ends `report`. Nothing was printed, and a value is refused, the book is not read, or the log is not opened; or a report that has
--- begun ends.
+-- a report can't begin: the book is not read; or a book was read, and the log is not opened, or memory ran out
+abbrev pub CannotBeginReport : {File : Type 0} → (bytes_of : File → Option (List ℕ)) → ArgMatches → Fault → Type 0
+CannotBeginReport bytes_of words fault =
+    CannotReadBook bytes_of (given_value words option.Book) fault
+    ⊎ ((text : List ℕ) × (book : BookFields) × IsReadBook bytes_of text book × IsFileUnreadOrNoMemory (given_value words option.Log) fault)
+
+-- a fault ends `report`: nothing was printed, and a value is refused, or the report can't begin; or a report that has begun ends
 abbrev pub StopsReport : {File : Type 0} → (bytes_of : File → Option (List ℕ)) → ArgMatches → Fault → (old new : Option (List ℕ)) → Type 0
 StopsReport bytes_of words fault old new =
-    ((new ≡ old) × (RefusesRowOptions words fault ⊎ (CannotReadBook bytes_of (given_value words option.Book) fault
-    ⊎ IsFileUnreadOrNoMemory (given_value words option.Log) fault)))
+    ((new ≡ old) × (RefusesRowOptions words fault ⊎ CannotBeginReport bytes_of words fault))
     ⊎ StopsPrinting bytes_of words fault old new
