@@ -2,7 +2,7 @@
  * codes (RFC 4226, RFC 6238).
  *
  * Each call is proved to do what is said here. No call keeps a pointer, or shares anything with another call, so any thread may make any
- * call at any time. Only scramotp_audit allocates memory, by malloc, and it has freed all when it returns.
+ * call at any time. Only scramotp_audit and scramotp_report allocate memory, by malloc, and they have freed all when they return.
  *
  * You owe each call pointers to as many bytes as it says, which no other thread writes meanwhile. What a call writes to overlaps none of
  * its other arguments. A pointer is NULL only if the length after it is 0; `at` in scramotp_bytes never is. All else is judged: what a
@@ -29,7 +29,8 @@
  *         put(verdict, verdict_len);
  *     return number == SCRAMOTP_OK ? accepted : refused;
  *
- * examples/login.c, examples/client.c, examples/logged.c, examples/verifier.c and examples/audit.c are whole programs.
+ * examples/login.c, examples/client.c, examples/logged.c, examples/verifier.c, examples/audit.c and examples/report.c are whole
+ * programs.
  *
  * A client's login. Its struct stays the same in all calls.
  *
@@ -277,6 +278,13 @@ typedef struct {
  * Numbers: 60 to 67 of the book, 87 for more lines, and 99, which only a lack of memory should bring; with these the struct is as it was.
  * Else 80 to 86, why the first line at fault is at fault, and the struct has its number and 0 as each count. */
 uint32_t scramotp_audit(const void *book, size_t book_len, const void *log, size_t log_len, scramotp_audited *audited);
+
+/* Says who was let in by a log, who was refused, and why: judges it as scramotp_audit does, and writes the rows (docs/FORMATS.md) of the
+ * lines before the first at fault, each with its LF. Rows are as secret as the log.
+ * Numbers: as scramotp_audit, with the struct as there, and the rows are written also with 80 to 87; but 93 if the room is too short. Then
+ * `out_len` has the length of the rows, and nothing else is written, so you can call again. With 60 to 67 and 99 all is as it was. */
+uint32_t scramotp_report(const void *book, size_t book_len, const void *log, size_t log_len, void *out, size_t out_room, size_t *out_len,
+    scramotp_audited *audited);
 
 /* The numbers. */
 enum {

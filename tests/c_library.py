@@ -239,6 +239,17 @@ def audits(folder: str) -> None:
             equal(ran([program, case.book, log]), (int(not want.startswith("clean")), f"{want}\n", ""), case.shows)
 
 
+def reports(folder: str) -> None:
+    """The example of a report has the rows that the table has of each log of data/audits."""
+    program, log = compiled(EXAMPLES / "report.c", "report"), pathlib.Path(folder, "log")
+    for trial, case in each(cases()):
+        with trial:
+            log.write_bytes(case.log)
+            accepted, line = re.search(r"accepted=(\d+)", case.answer), re.match(r"line (\d+)", case.answer)
+            end = f"logins: {accepted[1]}" if accepted else f"fault in line {line[1]}"
+            equal(ran([program, case.book, log]), (int(not accepted), "".join(f"{it}\n" for it in [*case.rows, end]), ""), case.shows)
+
+
 def under_valgrind(folder: str) -> None:
     """Valgrind finds no fault in the examples in C."""
     if not has("the examples in C under valgrind", "valgrind"):
@@ -601,6 +612,29 @@ def audited(folder: str) -> None:
         with trial:
             it = Audited(1, 2, 3, 4)
             equal((call("audit", text, lines, it), (it.line, it.sessions, it.accepted, it.codes_passed)), (want, found))
+
+
+def rows_of_logs(folder: str) -> None:
+    """The rows of a log are written if there is room for them, and nothing after them is changed; else their length is told, and the
+    structure stays as it was. A text that is no book has no rows; those of a log with too many lines are of its first million."""
+    book, log = (AUDITS / "keys.toml").read_bytes(), (AUDITS / "sha1.log").read_bytes()
+    rows, session = b"6 1 accepted user - SCRAM-SHA-1 -\n", b"S MECHS SCRAM-SHA-256 SCRAM-SHA-1\nC ABORT\nS NO :\nE\n"
+    for trial, (want, text, lines, due, found) in each([
+        (0, book, log, rows, (0, 1, 1, 0)), (85, book, log.replace(b"p=v0X8", b"p=w0X8"), b"", (6, 0, 0, 0)),
+        (82, book, log + b"E\n", rows, (len(log.split(b"\n")), 0, 0, 0)), (61, b"format = 2\n", log, None, (1, 2, 3, 4)),
+        (87, book, b"SCRAMLOG 1\n" + session * 250000,
+         b"".join(b"%d %d refused - - - aborted\n" % (4 * it, it) for it in range(1, 250001)), (1, 2, 3, 4)),
+    ]):
+        with trial:
+            for room in [len(due or b""), len(due or b"") + 500]:
+                it = Audited(1, 2, 3, 4)
+                told = written("report", room, text, lines, after=(ctypes.byref(it),))
+                equal(told, (want, (due or b"").ljust(room + 9, b"X"), 777 if due is None else len(due)), room)
+                equal((it.line, it.sessions, it.accepted, it.codes_passed), found, room)
+    for room in [0, len(rows) - 1]:
+        it = Audited(1, 2, 3, 4)
+        equal(written("report", room, book, log, after=(ctypes.byref(it),)), (93, b"X" * (room + 9), len(rows)))
+        equal((it.line, it.sessions, it.accepted, it.codes_passed), (1, 2, 3, 4))
 
 
 # What a message of each byte is in a line: each is spelled as itself or percent-encoded (docs/FORMATS.md).

@@ -196,6 +196,11 @@ static void audit(void)
     buffer book = changed(book_text), log = changed(log_text);
     scramotp_audited audited;
     note(scramotp_audit(book.at, book.len, log.at, log.len, &audited));
+    buffer rows = {NULL, below(200)};
+    size_t len = 0;
+    rows.at = malloc(rows.len);
+    note(scramotp_report(book.at, book.len, log.at, log.len, rows.at, rows.len, &len, &audited));
+    free(rows.at);
     free(book.at);
     free(log.at);
 }
