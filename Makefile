@@ -62,7 +62,7 @@ help:
 	@echo 'make setup      installs what the tests need, on Debian and as root'
 	@echo 'make test       compiles the program and all tests without proofs, and runs them: some 10 minutes'
 	@echo 'make test-doors tests only the hosts, and the doors with real servers and their clients'
-	@echo 'make prove      proves all, and checks that proofs refuse wrong bodies: some 100 minutes from nothing on 4 cores;'
+	@echo 'make prove      proves all, and checks that proofs refuse wrong bodies: about an hour from nothing on 4 cores;'
 	@echo '                SHARE=1 tries all wrong bodies, instead of about a third'
 	@echo 'make test-all   tests the proved program, with every random choice, and plants all bugs that the scripts have to refuse'
 	@echo 'make time       does test and prove, and writes what each part took to out/times.csv'
