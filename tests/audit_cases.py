@@ -14,17 +14,15 @@ TABLE = AUDITS / "cases.csv"
 
 
 class Case(NamedTuple):
-    """The file of the book, the bytes of the log, the answer, what the case shows, and the rows of a report."""
+    """The file of the book, the bytes of the log, the answer, and what the case shows."""
 
     book: pathlib.Path
     log: bytes
     answer: str
     shows: str
-    rows: list[str]
 
 
 def cases() -> list[Case]:
     """The cases of all rows, in the table's order."""
     logs = edited_texts(TABLE, "log", ".log")
-    return [Case((AUDITS / row["book"]).with_suffix(".toml"), log, row["answer"], row["shows"],
-                 row["rows"].split("\\n") if row["rows"] else []) for row, log in logs]
+    return [Case((AUDITS / row["book"]).with_suffix(".toml"), log, row["answer"], row["shows"]) for row, log in logs]

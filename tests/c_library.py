@@ -18,10 +18,10 @@ from collections.abc import Callable, Iterator
 from typing import Any, NamedTuple
 
 import suite
-from audit_cases import cases
+from audit_cases import TABLE, cases
 from c_support import ARCHIVES, DECOY_KEY, FUNCTIONS, MADE, WARNINGS, answer_to, base64_of, decoy_salt, library
 from checks import equal, holds
-from expected import AUDITS, DATA, VECTORS, code, keys_of, rows_of
+from expected import AUDITS, DATA, VECTORS, code, edited_texts, keys_of, rows_of
 from processes import ran
 from suite import CODES, SEEDS, TOP, each, has, not_tested
 
@@ -242,12 +242,13 @@ def audits(folder: str) -> None:
 def reports(folder: str) -> None:
     """The example of a report has the rows that the table has of each log of data/audits."""
     program, log = compiled(EXAMPLES / "report.c", "report"), pathlib.Path(folder, "log")
-    for trial, case in each(cases()):
+    for trial, (row, text) in each(edited_texts(TABLE, "log", ".log")):
         with trial:
-            log.write_bytes(case.log)
-            accepted, line = re.search(r"accepted=(\d+)", case.answer), re.match(r"line (\d+)", case.answer)
-            end = f"logins: {accepted[1]}" if accepted else f"fault in line {line[1]}"
-            equal(ran([program, case.book, log]), (int(not accepted), "".join(f"{it}\n" for it in [*case.rows, end]), ""), case.shows)
+            log.write_bytes(text)
+            accepted, line = re.search(r"accepted=(\d+)", row["answer"]), re.match(r"line (\d+)", row["answer"])
+            rows = row["rows"].split("\\n") if row["rows"] else []
+            said = "".join(f"{it}\n" for it in [*rows, f"logins: {accepted[1]}" if accepted else f"fault in line {line[1]}"])
+            equal(ran([program, AUDITS / f"{row['book']}.toml", log]), (int(not accepted), said, ""), row["shows"])
 
 
 def under_valgrind(folder: str) -> None:
