@@ -340,6 +340,22 @@ def a_page_in_the_place_of_another(folder: str) -> None:
             equal(early, (0, f"{first}\n{128 + signal.SIGPIPE}\n", ""), "a reader that ends early")
 
 
+def a_page_in_the_place_of_a_log(folder: str) -> None:
+    """What a report is made of is not replaced by its page, by whatever name."""
+    of_log, log, link = Path(folder, "book"), Path(folder, "log"), Path(folder, "link")
+    clients = Path(folder, "log.clients")
+    of_log.write_bytes((AUDITS / "keys.toml").read_bytes())
+    log.write_bytes((AUDITS / "sha1.log").read_bytes())
+    clients.write_text("1 open 2026-11-30T04:10:00Z\n")
+    link.symlink_to("log")
+    texts = [it.read_bytes() for it in (of_log, log, clients)]
+    for trial, page in each([of_log, log, link, clients]):
+        with trial:
+            status, output, told = report(folder, of_log, log, "-o", page)
+            equal((status, output, told.splitlines()[-1]), (2, "", f"log-report: error: argument -o: the report is made of {page}"))
+            equal([it.read_bytes() for it in (of_log, log, clients)], texts, "the files")
+
+
 def many_sessions(count: int) -> bytes:
     """A log of so many sessions, all left at once."""
     return b"SCRAMLOG 2\n" + b"".join(b"%d %b\n%d C GONE\n%d E\n" % (it, MECHS.encode(), it, it) for it in range(1, count + 1))

@@ -113,7 +113,7 @@ def service(folder: str, name: str, block: int) -> dict[str, str]:
     services.mkdir(exist_ok=True)
     path = f"/usr/bin/env PATH={program_on_path(folder)['PATH']} "
     text = SERVICES[block].replace("/usr/local/share/scramotp/check-login", f"{path}{LOGIN}")
-    (services / name).write_text(text.replace("/run/scramotp/socket", f"{folder}/socket"))
+    (services / name).write_text(text.replace("/run/scramotp/hall.sock", f"{folder}/socket"))
     return {**os.environ, "LD_PRELOAD": WRAPPER, "PAM_WRAPPER": "1", "PAM_WRAPPER_SERVICE_DIR": str(services)}
 
 

@@ -183,7 +183,7 @@ def codes_for_sshd(folder: str) -> None:
 # Serves a book in root's home, and has sshd let in by what PAM says alone.
 SERVED = """install -m 600 /dev/stdin book.toml
 mkdir /run/scramotp
-systemd-run --quiet --unit hall /usr/share/scramotp/serve-hall $PWD/book.toml /run/scramotp/socket $PWD/log
+systemd-run --quiet --unit hall /usr/share/scramotp/serve-hall $PWD/book.toml /run/scramotp/hall.sock $PWD/log
 cp /etc/pam.d/sshd sshd
 printf '%s\n' 'KbdInteractiveAuthentication yes' 'AuthenticationMethods keyboard-interactive' >/etc/ssh/sshd_config.d/all.conf
 systemctl restart ssh
