@@ -352,7 +352,7 @@ def a_page_in_the_place_of_a_log(folder: str) -> None:
     for trial, page in each([of_log, log, link, clients]):
         with trial:
             status, output, told = report(folder, of_log, log, "-o", page)
-            equal((status, output, told.splitlines()[-1]), (2, "", f"log-report: error: argument -o: the report is made of {page}"))
+            equal((status, output, told.splitlines()[-1:]), (2, "", [f"log-report: error: argument -o: the report is made of {page}"]))
             equal([it.read_bytes() for it in (of_log, log, clients)], texts, "the files")
 
 
