@@ -68,7 +68,7 @@ def a_unit_at_work(folder: str) -> None:
         until(lambda: len(logs_of(machine)) == 2, "a new log should begin")
         told = machine.does("runuser -u scramotp -- /usr/share/scramotp/scramotp-host ctl unlock user")
         equal(told, "unlocked user\n", "what the operator is told")
-        machine.does("pkill --signal KILL --full 'scramotp hall'")
+        until(lambda: not machine.runs("pkill --signal KILL --full 'scramotp hall'").status, "the next hall should run, and be killed")
         until(lambda: len(logs_of(machine)) == 4, "the service should begin again")
         equal(logs_in(machine), "OK\t1\tuser=user", "a login after that")
         machine.does(f"systemctl stop {NAME}.socket {NAME}.service")
