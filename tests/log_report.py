@@ -22,7 +22,7 @@ import picture
 import suite
 from audit_cases import TABLE
 from checks import equal, holds
-from clients import Account, book, dealt, escaped, gone, logged_in
+from clients import Account, book, dealt, escaped, gone, logged_in, said, turned_away
 from expected import AUDITS, MECHS, base64_of, edited_texts
 from picture import INCIDENT, TOOL
 from processes import Answer, Running, ran, sleeps, until
@@ -81,7 +81,7 @@ def a_table(folder: str) -> None:
     what the audit says."""
     log = Path(folder, "log")
     log.write_bytes((AUDITS / "interleaved.log").read_bytes())
-    clean = "The log is clean: nobody was let in, and nobody refused, against the rules.\nclean sessions=2 accepted=1 codes=1\n"
+    clean = "The log is clean: each password and each code was judged by the rules.\nclean sessions=2 accepted=1 codes=1\n"
     totals = "      1  let in\n      1  code passed\n      1  mechanism not offered\n"
     equal(report(folder, AUDITS / "hotp.toml", log), (0, f"""\
 SESSION  WHO   HOW          OUTCOME
@@ -158,10 +158,10 @@ class Page(html.parser.HTMLParser):
             self.table[-1][-1] += data
 
 
-def page_of(folder: str | Path, of_log: str | Path, log: str | Path, status: int = 0) -> Page:
+def page_of(folder: str | Path, of_log: str | Path, log: str | Path, *words: str, status: int = 0) -> Page:
     """The page of a log, which asks for nothing else and runs nothing but its own script."""
     file = Path(folder, "page.html")
-    output = report(folder, of_log, log, "-o", file).given("a page", status=status)
+    output = report(folder, of_log, log, *words, "-o", file).given("a page", status=status)
     text = file.read_text(encoding="utf-8")
     page = Page(text)
     holds(page.texts["code"] == [output.removesuffix("\n")], "the page does not have the audit's answer", output)
@@ -190,15 +190,19 @@ def a_page(folder: str) -> None:
     equal(stat.S_IMODE(os.stat(Path(folder, "page.html")).st_mode), 0o600, "the mode of the page")
     day, home = "2026-11-30 04:", "service=smtp rip=192.0.2.7"
     equal(page.tables["Who was let in"][1:], [
-        ["a b%c", "", "1", f"{day}10:58", f"{day}10:58", "service=imap rip=2001:db8::7"],
         ["phone", "", "1", f"{day}10:59", f"{day}10:59", "service=imap rip=192.0.2.33"],
-        ["user", "", "2", f"{day}10:00", f"{day}11:35", home],
+        ["user", "", "1", f"{day}10:00", f"{day}10:00", home],
         ["user", "list owner", "1", f"{day}10:25", f"{day}10:25", home],
     ], "who was let in")
-    equal(page.tables["Accounts most guessed at"][1:], [
-        ["user", "1", "", "1", "3", f"{home}, service=imap rip=203.0.113.9"],
-        ["nobody", "", "1", "", "", "service=imap rip=203.0.113.9"],
-        ["phone", "", "", "1", "1", "service=imap rip=192.0.2.33"],
+    equal(page.tables["Right password, no code passed"][1:], [
+        ["a b%c", "", "1", f"{day}10:58", f"{day}10:58", "service=imap rip=2001:db8::7"],
+        ["user", "", "1", f"{day}11:35", f"{day}11:35", home],
+    ], "who had the right password alone")
+    equal(page.tables["Accounts most guessed at"], [
+        ["Account", "Wrong password", "No such account", "Wrong code", "Token locked", "Let in", "Guessed at from"],
+        ["user", "1", "", "1", "", "2", f"{home}, service=imap rip=203.0.113.9"],
+        ["phone", "", "", "1", "1", "1", "service=imap rip=192.0.2.33"],
+        ["nobody", "", "1", "", "", "", "service=imap rip=203.0.113.9"],
     ], "who was guessed at")
     sessions = page.tables["Sessions"][1:]
     equal([it[0] for it in sessions], [str(number) for number in range(1, 24) if number != 22], "the sessions that were decided")
@@ -206,15 +210,86 @@ def a_page(folder: str) -> None:
     equal(sessions[0], first, "the first session")
     equal(sessions[9][2:], ["user", "root", "service=imap rip=192.0.2.7", "SCRAM-SHA-1", "may not act as that name"], "the tenth session")
     equal(sessions[18][:5], ["19", "", "", "", ""], "a session of which the clients' file has nothing")
-    equal(page.tables["The chart as a table"][1:], [
-        [f"{day}10:00", "1", "4"], [f"{day}10:05", "", "2"], [f"{day}10:10", "", "1"], [f"{day}10:15", "", "1"], [f"{day}10:20", "", "1"],
-        [f"{day}10:25", "1", "1"], [f"{day}10:30", "", "1"], [f"{day}10:35", "", "3"], [f"{day}10:40", "", "1"], [f"{day}10:55", "2", ""],
-        [f"{day}11:35", "1", ""],
+    equal(page.tables["The chart as a table"], [
+        ["From", "Let in", "Right password, no code passed", "Refused"],
+        [f"{day}10:00", "1", "", "4"], [f"{day}10:05", "", "", "2"], [f"{day}10:10", "", "", "1"], [f"{day}10:15", "", "", "1"],
+        [f"{day}10:20", "", "", "1"], [f"{day}10:25", "1", "", "1"], [f"{day}10:30", "", "", "1"], [f"{day}10:35", "", "", "3"],
+        [f"{day}10:40", "", "", "1"], [f"{day}10:55", "1", "1", ""], [f"{day}11:35", "", "1", ""],
     ], "the chart")
-    chart = f"From {day}10:00 to {day}11:35, 5 let in above the axis and 15 refused below it. Most were refused at {day}10:00: 4."
-    equal((page.texts["desc"], page.tags.count("rect")), ([chart], 13), "the chart's text, and how many bars it has")
+    chart = f"From {day}10:00 to {day}11:35: 3 let in above the axis, and below it 15 refused and 2 with the right password and no code "
+    chart += f"that passed. Most were refused at {day}10:00: 4."
+    equal(page.texts["desc"], [chart], "the chart's text")
+    text = Path(folder, "page.html").read_text(encoding="utf-8")
+    axis, parts = float(re.findall(r' y1="(\d+)"', text)[0]), re.findall(r'<rect class="(\w+)" .*? y="(.*?)" .*? height="(.*?)"', text)
+    # The longest bar is of four, 90 points long.
+    drawn = [(kind, float(top) < axis, round(float(height) / 22.5)) for kind, top, height in parts]
+    due = {("in", True): 3, ("unpassed", False): 2, ("out", False): 15}
+    equal({it: sum(count for *of, count in drawn if tuple(of) == it) for it in {it[:2] for it in drawn}}, due, "what is above the axis")
     told = {it[0]: it[1] for it in page.tables["What it means, and what to do"][1:]}
-    equal((len(told), told["let in"], told["code used before"], told["wrong password"]), (23, "5", "3", "1"), "what is explained")
+    equal((len(told), told["let in"], told["code used before"], told["wrong password"]), (24, "3", "3", "1"), "what is explained")
+
+
+# What a client sends after its login: its codes, each with the answer that is due. Code 9 is too far ahead to pass.
+WRONG, RIGHT, OLD = (9, "S FAIL 5"), (0, "S PASS 5 0"), (0, "S FAIL 5")
+VISITS = {
+    "plain": ([], "let in"),
+    "once": ([RIGHT], "let in, code passed"),
+    "second": ([WRONG, RIGHT], "let in, wrong code, code passed"),
+    "again": ([RIGHT, OLD], "let in, code passed, code used before"),
+    "never": ([WRONG, WRONG], "right password, no code passed, wrong code (2)"),
+    "old": ([OLD], "right password, no code passed, code used before"),
+    "locked": ([(0, "S LOCKED 5")], "right password, no code passed, token locked"),
+    "bare": ([(0, "S NOCODE 5")], "right password, no code passed, no token"),
+}
+
+
+def log_with_codes(folder: str | Path) -> tuple[Path, Path]:
+    """The paths of a book, and of a log with these visits, one after the other; after them `plain` has a wrong password."""
+    people = {name: Account(name, "SCRAM-SHA-256") for name in VISITS}
+    entries = {name: it.entry(name != "bare") for name, it in people.items()}
+    entries["locked"] = entries["locked"].replace("limit = 100\nfailures = 0\n", "limit = 1\nfailures = 1\n")
+    entries["old"] = entries["old"].replace("next = 0\n", "next = 1\n")
+    of_log, log = Path(folder, "book.toml"), Path(folder, "log")
+    of_log.write_text(book([]) + "".join(entries.values()))
+    visits = [
+        [*logged_in(it, "fyko", "own"), *(said(f"CODE {it.code(counter)}", due) for counter, due in VISITS[name][0]), gone()]
+        for name, it in people.items()
+    ]
+    visits.append(turned_away(people["plain"], "fyko", "own"))
+    log.write_text(dealt([number for number, visit in enumerate(visits) for _ in visit], visits)[1])
+    return of_log, log
+
+
+def who_is_let_in(folder: str) -> None:
+    """A login counts as let in if a code passed, or if none was sent; with --codes only if one passed. The table, the totals, the chart,
+    the tables of the page and their colours all follow that, and it is said how many sent none. The rows stay as they are."""
+    of_log, log = log_with_codes(folder)
+    unsure = "Let in without a code: 1. If your service wants a code, it did not let these in: log-report --codes tells them apart."
+    short = "right password, no code passed"
+    for trial, (words, names, plain, note) in each([
+        ([], ["again", "once", "plain", "second"], "let in", [unsure]),
+        (["--codes"], ["again", "once", "second"], short, []),
+    ]):
+        with trial:
+            due = [plain, *(it for _, it in VISITS.values() if it != "let in"), "wrong password"]
+            looks = ["in" if it.startswith("let in") else "unpassed" if it.startswith(short) else "out" for it in due]
+            page, others = page_of(folder, of_log, log, *words), sorted({*VISITS} - {*names})
+            equal([it[-1] for it in page.tables["Sessions"][1:]], due, "what came of the sessions", words)
+            text = Path(folder, "page.html").read_text(encoding="utf-8")
+            equal(re.findall(r'class="(\w*)">[^<]*</td></tr>', text.partition('id="sessions"')[2])[:9], looks, "their colours", words)
+            equal([it[0] for it in page.tables["Who was let in"][1:]], names, "who was let in", words)
+            equal([it[0] for it in page.tables["Right password, no code passed"][1:]], others, "who was not", words)
+            totals = dict(zip(page.texts["dt"], page.texts["dd"]))
+            equal((totals["let in"], totals[short], totals["refused"]), (str(len(names)), str(len(others)), "1"), "the totals", words)
+            chart = [[it[at + 1] == "1" for it in page.tables["The chart as a table"][1:]] for at in range(3)]
+            equal(chart, [[it == look for it in looks] for look in ("in", "unpassed", "out")], "the chart", words)
+            says = f"{len(names)} let in above the axis, and below it 1 refused and {len(others)} with the right password and no code that"
+            holds(says in page.texts["desc"][0], "the chart's text", page.texts["desc"])
+            equal([it for it in page.texts["p"] if it.startswith("Let in without a code")], note, "what the log can't tell", words)
+            printed = report(folder, of_log, log, *words).given("a table")
+            holds(f"{len(names):7}  let in\n" in printed and f"{len(others):7}  {short}\n" in printed, "the counts", words, printed)
+            equal(re.findall("^Let in without.*", printed, re.M), note, "what the table says of that", words)
+            equal(report(folder, of_log, log, *words, "--csv"), report(folder, of_log, log, "--csv"), "the rows", words)
 
 
 HOSTILE = ["<script>alert(1)</script>", '"><img src=x onerror=alert(1)>', "%3Cscript%3E&lt;b&gt;", "</title></style>'", "x" * 255]
@@ -250,7 +325,7 @@ def pages_of_faulty_logs(folder: str) -> None:
             of_kind = [it for it in edited_texts(TABLE, "log", ".log") if re.match(rf"line \d+: {kind}\b", it[0]["answer"])]
             row, text = max(of_kind, key=lambda it: len(it[0]["rows"]))
             log.write_bytes(text)
-            page = page_of(folder, AUDITS / f"{row['book']}.toml", log, 1)
+            page = page_of(folder, AUDITS / f"{row['book']}.toml", log, status=1)
             equal(page.texts["code"], [row["answer"]], "the audit's answer")
             equal([it for name, it in page.attributes if name == "class"][0], f"audit {look}", "how the answer looks", kind)
             told = " ".join(page.texts["strong"] + page.texts["p"])
@@ -264,8 +339,8 @@ def clients_that_are_not_known(folder: str) -> None:
     out. Without moments the chart has the logins in their order."""
     log, file = Path(folder, "incident.log"), Path(folder, "incident.log.clients")
     shutil.copy(INCIDENT, log)
-    is_let_in = [True, *[False] * 9, True, *[False] * 6, *[True] * 3]
-    due = [[f"login {number}", "1" if it else "", "" if it else "1"] for number, it in enumerate(is_let_in, 1)]
+    # In their order 20 logins, of which 1, 11 and 19 were let in, and 18 and 20 had the right password without a code that passed.
+    due = [[f"login {it}", "1" * (it in (1, 11, 19)), "1" * (it in (18, 20)), "1" * (it not in (1, 11, 18, 19, 20))] for it in range(1, 21)]
     equal(page_of(folder, BOOK_OF_INCIDENT, log).tables["The chart as a table"][1:], due, "the chart without moments")
     for trial, (text, when, client) in each([
         (None, "", ""),

@@ -12,9 +12,15 @@ class Meaning(NamedTuple):
 
 GUESS = "Few are mistyped passwords. Many, or of many names, are guesses: limit who may connect, and see what else the same client did."
 BROKEN = "The client's program is at fault, or someone tries out the server: see who it is."
-# By what is decided: of `refused` the reason, of `failed` with a code that is spent `spent`, of others the event.
+# By what is decided: of `refused` the reason, of `failed` with a code that is spent `spent`, of others the event; and `no-pass` of a whole
+# session.
 MEANINGS = {
-    "accepted": Meaning("let in", "The password was right."),
+    "accepted": Meaning("let in", "The password was right, and one code passed at least, if any was sent."),
+    "no-pass": Meaning(
+        "right password, no code passed",
+        "The password was right, and no code passed. A service that wants a code did not let the user in, and one that wants none did.",
+        "If the user knows nothing of it, someone else has the password: change it.",
+    ),
     "proof": Meaning("wrong password", "The account is there, and the proof is not of its password.", GUESS),
     "no-account": Meaning("no such account", "The book has no such account. The client was told what a wrong password gets.", GUESS),
     "no-keys": Meaning(
@@ -51,10 +57,13 @@ MEANINGS = {
     "no-token": Meaning("no token", "The account has no token.", "Give it one, or let the client ask for no code."),
     "halted": Meaning("server stopped", "The server could not save the book, and gave no reply.", "Make room, and begin a new log."),
 }
-# What comes of a login that is no refusal, what comes of a code, and what is counted as a guess at an account.
-NO_REFUSALS = ("accepted", "left", "busy")
+# What comes of sessions without a decided login; of which kind is what comes of others, and else `out`; and these kinds in words.
+UNDECIDED = ("left", "busy")
+KIND_OF = {"accepted": "in", "no-pass": "unpassed"} | dict.fromkeys(UNDECIDED, "")
+KINDS = {"in": MEANINGS["accepted"].words, "unpassed": MEANINGS["no-pass"].words, "out": "refused"}
+# What comes of a code, and what is counted as a guess at an account.
 OF_CODES = ("passed", "failed", "spent", "locked", "no-token", "halted")
-GUESSES = ("proof", "no-account", "failed")
+GUESSES = ("proof", "no-account", "failed", "locked")
 
 
 class Verdict(NamedTuple):
@@ -68,7 +77,7 @@ class Verdict(NamedTuple):
 BOOK = "See first whether the book is the copy that was made as the log began. "
 LOOK = "Believe no line from there on. Keep the log and its book as they are, and find out who could write them."
 VERDICTS = {
-    "clean": Verdict("good", "The log is clean: nobody was let in, and nobody refused, against the rules."),
+    "clean": Verdict("good", "The log is clean: each password and each code was judged by the rules."),
     "cut": Verdict(
         "partial", "The log is right so far, and ends where a line is due: the server still writes it, or was stopped.",
         "If the server goes on, make the report again once the log has ended.",
@@ -78,7 +87,7 @@ VERDICTS = {
     "mechs": Verdict("bad", "The server offered other mechanisms than it has: it is at fault, or another program wrote the log.", LOOK),
     "challenge": Verdict("bad", "The server sent a wrong challenge, or the book is another one.", BOOK + LOOK),
     "outcome": Verdict(
-        "bad", "Someone was let in who should not have been, or was wrongly refused; or the book is another one.",
+        "bad", "A login was accepted that should have been refused, or was wrongly refused; or the book is another one.",
         BOOK + "If an OK stands where a NO was due, treat it as a break-in until you know better. " + LOOK,
     ),
     "reply": Verdict(

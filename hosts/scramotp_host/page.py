@@ -4,6 +4,7 @@ Whatever stands in a log or in LOG.clients may be hostile. It comes into the pag
 page allows no script or style but its own.
 """
 import hashlib
+import re
 from base64 import b64encode
 from collections import Counter
 from collections.abc import Iterable, Iterator
@@ -11,18 +12,17 @@ from html import escape
 from typing import NamedTuple
 
 from scramotp_host.chart import bars_in_order, bars_over_time, picture
-from scramotp_host.meanings import GUESSES, MEANINGS, NO_REFUSALS, OF_CODES
-from scramotp_host.report import Answer, Session, counted
+from scramotp_host.meanings import GUESSES, KINDS, MEANINGS, OF_CODES, UNDECIDED
+from scramotp_host.report import Answer, Session, counted, unsure
 
 # How many rows a table shows, of sessions the newest, since a browser takes long for more; and how many accounts that are guessed at.
 MOST_ROWS, MOST_GUESSED = 10000, 50
 
 STYLE = """
 :root { color-scheme: light dark; --text: #1b1f24; --dim: #57606a; --back: #fff; --line: #d0d7de; --in: #0a6e4f; --out: #b3470b;
-  --wait: #8a6100; --good: #dff5e8; --bad: #fde3d8; --partial: #fff3cd; }
+  --wait: #8a6100; --half: #d9a514; --good: #dff5e8; --bad: #fde3d8; --partial: #fff3cd; }
 @media (prefers-color-scheme: dark) { :root { --text: #e6edf3; --dim: #9aa4ae; --back: #0d1117; --line: #30363d; --in: #4cc38a;
-  --out: #f0883e; --wait: #d4a72c; --good: #0f2e20; --bad: #3d1d10;
-  --partial: #33280b; } }
+  --out: #f0883e; --wait: #d4a72c; --half: #d4a72c; --good: #0f2e20; --bad: #3d1d10; --partial: #33280b; } }
 body { margin: 0 auto; padding: 1.5rem; max-width: 70rem; font: 1rem/1.5 system-ui, sans-serif; color: var(--text);
   background: var(--back); }
 h1 { font-size: 1.6rem; margin: 0 0 1rem; overflow-wrap: anywhere; }
@@ -44,10 +44,12 @@ td { max-width: 22rem; overflow-wrap: break-word; }
 th.number, td.number { padding-right: 1.5rem; text-align: right; font-variant-numeric: tabular-nums; white-space: nowrap; }
 .time, .how { white-space: nowrap; font-variant-numeric: tabular-nums; }
 td.in { color: var(--in); }
+td.unpassed { color: var(--wait); }
 td.out { color: var(--out); }
 figure { margin: 0; overflow-x: auto; }
 svg { width: 100%; min-width: 40rem; height: auto; font-size: 13px; }
 svg .in { fill: var(--in); }
+svg .unpassed { fill: var(--half); }
 svg .out { fill: var(--out); }
 svg text { fill: var(--dim); }
 svg .end { text-anchor: end; }
@@ -140,43 +142,49 @@ def audited(answer: Answer) -> Iterator[str]:
 
 def totals(sessions: list[Session]) -> Iterator[str]:
     """How many sessions, logins and codes there are."""
-    counts = counted(sessions)
-    refused = len(sessions) - sum(counts[kind] for kind in NO_REFUSALS)
-    told = {"sessions decided": len(sessions), "let in": counts["accepted"], "refused": refused}
-    told |= {MEANINGS[kind].words: counts[kind] for kind in (*NO_REFUSALS[1:], *OF_CODES)}
+    counts, kinds = counted(sessions), Counter(it.kind for it in sessions)
+    told = {"sessions decided": len(sessions)} | {words: kinds[kind] for kind, words in KINDS.items()}
+    told |= {MEANINGS[kind].words: counts[kind] for kind in (*UNDECIDED, *OF_CODES)}
     yield '<dl class="totals">'
     yield "".join(f"<div><dt>{escape(words)}</dt><dd>{count}</dd></div>" for words, count in told.items() if count)
     yield "</dl>\n"
 
 
 def chart(sessions: list[Session]) -> Iterator[str]:
-    """The logins that were let in, and those that were refused: over time, or in their order if none has a time."""
-    logins = [it for it in sessions if it.outcome == "accepted" or it.outcome not in NO_REFUSALS]
-    timed = [(it.opened, it.outcome == "accepted") for it in logins if it.opened]
+    """The logins that were let in, and those that were not: over time, or in their order if none has a time."""
+    logins = [it for it in sessions if it.kind]
+    timed = [(it.opened, it.kind) for it in logins if it.opened]
     if not logins:
         yield "<p>No login was decided.</p>\n"
         return
-    bars = bars_over_time(timed) if timed else bars_in_order([it.outcome == "accepted" for it in logins])
+    bars = bars_over_time(timed) if timed else bars_in_order([it.kind for it in logins])
     yield f"<h2>Logins {'over time' if timed else 'in their order'}</h2>\n<figure>{picture(bars)}"
     if timed and len(timed) < len(logins):
         yield f'<figcaption class="note">{len(logins) - len(timed)} of {len(logins)} logins have no time, and are not shown.</figcaption>'
     yield "</figure>\n<details><summary>The chart as a table</summary>\n"
-    head = [Cell("From" if timed else "Logins"), Cell("Let in", "number"), Cell("Refused", "number")]
-    yield from table(head, ([Cell(it.label), number(it.accepted), number(it.refused)] for it in bars if it.accepted or it.refused))
+    shown = [kind for kind in KINDS if any(it.counts[kind] for it in bars)]
+    head = [Cell("From" if timed else "Logins"), *(Cell(KINDS[kind].capitalize(), "number") for kind in shown)]
+    yield from table(head, ([Cell(it.label), *(number(it.counts[kind]) for kind in shown)] for it in bars if it.counts.total()))
     yield "</details>\n"
 
 
 def let_in(sessions: list[Session]) -> Iterator[str]:
-    """Who was let in, as whom, how often and from where."""
+    """Who was let in, and who had the right password without a code that passed."""
+    yield "<h2>Who was let in</h2>\n"
+    yield f'<p class="note">{note}</p>\n' if (note := unsure(sessions)) else ""
+    yield from accounts(sessions, "in") if any(it.kind == "in" for it in sessions) else ["<p>Nobody.</p>\n"]
+    if any(it.kind == "unpassed" for it in sessions):
+        yield f"<h2>{KINDS['unpassed'].capitalize()}</h2>\n"
+        yield from accounts(sessions, "unpassed")
+
+
+def accounts(sessions: list[Session], kind: str) -> Iterator[str]:
+    """The accounts of the sessions of this kind, as whom, how often and from where."""
     groups: dict[tuple[str | None, str | None], list[Session]] = {}
     for session in sessions:
-        if session.outcome == "accepted":
+        if session.kind == kind:
             groups.setdefault((session.account, session.acts_as), []).append(session)
     found = sorted(groups.items(), key=lambda it: (it[0][0] or "", it[0][1] or ""))
-    yield "<h2>Who was let in</h2>\n"
-    if not found:
-        yield "<p>Nobody.</p>\n"
-        return
     head = [Cell("Account"), Cell("Acts as"), Cell("Times", "number"), Cell("First"), Cell("Last"), Cell("From")]
     yield from table(head, (
         [Cell(account), Cell(acts_as), number(len(of)), when(of[0]), when(of[-1]), Cell(origins(of))]
@@ -186,8 +194,8 @@ def let_in(sessions: list[Session]) -> Iterator[str]:
 
 
 def origins(sessions: list[Session]) -> str:
-    """The most frequent clients of some sessions."""
-    clients = Counter(it.client for it in sessions if it.client)
+    """The most frequent clients of some sessions, without their process numbers, of which each has its own."""
+    clients = Counter(re.sub(r"\bpid=\d+ ?", "", it.client).rstrip() for it in sessions if it.client)
     return ", ".join(client for client, _ in clients.most_common(3)) + (f" and {len(clients) - 3} more" if len(clients) > 3 else "")
 
 
@@ -209,6 +217,8 @@ def guessed(sessions: list[Session]) -> Iterator[str]:
     if not guesses:
         yield "<p>None: no password and no code was wrong.</p>\n"
         return
+    yield '<p class="note">Counted are wrong passwords, names without an account, wrong codes, and codes at a locked token, right or '
+    yield "wrong, but no codes that were used before.</p>\n"
     found = sorted(guesses, key=lambda name: -sum(counts[name][kind] for kind in GUESSES))
     shown = (*GUESSES, "accepted")
     head = [Cell("Account"), *(Cell(MEANINGS[kind].words.capitalize(), "number") for kind in shown), Cell("Guessed at from")]
@@ -228,7 +238,7 @@ def all_sessions(sessions: list[Session]) -> Iterator[str]:
     yield from table(head, (
         [
             Cell(it.number, "number"), when(it), Cell(it.account), Cell(it.acts_as), Cell(it.client), Cell(it.mechanism, "how"),
-            Cell(it.words, "in" if it.outcome == "accepted" else "" if it.outcome in NO_REFUSALS else "out"),
+            Cell(it.words, it.kind),
         ]
         for it in sessions[-MOST_ROWS:]
     ), 'table id="sessions"')

@@ -10,7 +10,7 @@ from sys import intern
 from typing import NamedTuple
 from urllib.parse import unquote
 
-from scramotp_host.meanings import MEANINGS, OF_CODES, VERDICTS, Verdict
+from scramotp_host.meanings import KIND_OF, MEANINGS, OF_CODES, VERDICTS, Verdict
 
 
 class Row(NamedTuple):
@@ -83,16 +83,17 @@ def moment_of(text: str) -> datetime | None:
 
 @dataclass(slots=True)
 class Session:
-    """A session: when it began, and its client, if that is known; what has come of the login, and how many of its codes have come to what,
-    by the keys of MEANINGS."""
+    """A session: when it began, and its client, if that is known; whether its service wants a code; what has come of the login, and how
+    many of its codes have come to what, by the keys of MEANINGS."""
 
     number: int
     opened: datetime | None
     client: str
+    wants_code: bool
     account: str | None = None
     acts_as: str | None = None
     mechanism: str | None = None
-    outcome: str = ""
+    login: str = ""
     codes: dict[str, int] = field(default_factory=dict)
 
     def takes(self, row: Row) -> None:
@@ -101,8 +102,20 @@ class Session:
         kind = kind_of(row)
         if kind in OF_CODES:
             self.codes[kind] = self.codes.get(kind, 0) + 1
-        elif not self.outcome:
-            self.outcome = kind
+        elif not self.login:
+            self.login = kind
+
+    @property
+    def outcome(self) -> str:
+        """What has come of it in all, by a key of MEANINGS. After a right password a service that wants a code lets in at the first that
+        passes. One that wants none gets none, and lets in at once."""
+        is_unpassed = self.login == "accepted" and "passed" not in self.codes and (self.wants_code or self.codes)
+        return "no-pass" if is_unpassed else self.login
+
+    @property
+    def kind(self) -> str:
+        """The same by a key of KINDS, or nothing if no login was decided."""
+        return KIND_OF.get(self.outcome, "out")
 
     @property
     def words(self) -> str:
@@ -118,13 +131,13 @@ def kind_of(row: Row) -> str:
     return row.reason if row.event == "refused" else row.event
 
 
-def sessions_of(rows: Iterable[Row], clients: Mapping[int, Opened]) -> list[Session]:
-    """The sessions of which there is a row, in the order in which they began."""
+def sessions_of(rows: Iterable[Row], clients: Mapping[int, Opened], want_codes: bool) -> list[Session]:
+    """The sessions of which there is a row, in the order in which they began, of a service that wants codes or not."""
     found: dict[int, Session] = {}
     for row in rows:
         if row.session not in found:
             when, client = clients[row.session]
-            found[row.session] = Session(row.session, moment_of(when), client)
+            found[row.session] = Session(row.session, moment_of(when), client, want_codes)
         found[row.session].takes(row)
     return sorted(found.values(), key=lambda it: it.number)
 
@@ -136,6 +149,13 @@ def counted(sessions: Iterable[Session]) -> Counter[str]:
         counts[session.outcome] += 1
         counts.update(session.codes)
     return counts
+
+
+def unsure(sessions: Iterable[Session]) -> str:
+    """What a log can't tell of those that count as let in, if anything."""
+    count = sum(it.kind == "in" and not it.codes for it in sessions)
+    to_do = "If your service wants a code, it did not let these in: log-report --codes tells them apart."
+    return f"Let in without a code: {count}. {to_do}" if count else ""
 
 
 # What a table for a terminal has of a session, by its head. A longer text than the widest is not cut, and moves the rest of its line.
