@@ -7,6 +7,8 @@ folder. systemd.py has both at a real sshd.
 """
 import contextlib
 import os
+import re
+import socket
 from collections.abc import Iterator
 from pathlib import Path
 
@@ -44,11 +46,11 @@ def is_clean(folder: str, sessions: int, accepted: int, codes: int) -> None:
     audit_says(f"{folder}/log.toml", f"{folder}/log", f"clean sessions={sessions} accepted={accepted} codes={codes}")
 
 
-def asked(folder: str, words: list, name: str | None, text: str | bytes) -> int:
-    """The status of a command as pam_exec runs it: with the user's name in the environment, and what he typed as its input. It must say
-    nothing."""
-    environment = {it: value for it, value in program_on_path(folder).items() if it != "PAM_USER"}
-    answer = ran(words, text, env=environment | ({} if name is None else {"PAM_USER": name}))
+def asked(folder: str, words: list, name: str | None, text: str | bytes, **more: str) -> int:
+    """The status of a command as pam_exec runs it: with the user's name, and what else PAM says, in the environment, and what he typed as
+    its input. It must say nothing."""
+    environment = {it: value for it, value in program_on_path(folder).items() if not it.startswith("PAM_")}
+    answer = ran(words, text, env=environment | more | ({} if name is None else {"PAM_USER": name}))
     equal((answer.output, answer.faults), ("", ""), "what is said for", name, text)
     return answer.status
 
@@ -93,6 +95,41 @@ def passwords_with_codes(folder: str) -> None:
     is_clean(folder, 4, 3, 2)
 
 
+def noted(folder: str) -> list[str]:
+    """What the file of the clients has of each session as it begins, after its user and its process."""
+    lines = Path(folder, "log.clients").read_text(encoding="ascii").splitlines()
+    return [re.sub(r"\d+ open \S+ uid=\d+ pid=\d+ ?", "", it) for it in lines if " open " in it]
+
+
+def where_logins_come_from(folder: str) -> None:
+    """The file of the clients has what PAM says of each, whatever it is, as far as it fits into the name of a socket. Another client can
+    tell as much, but nothing under another name, and no second line."""
+    with hall(folder, book([USER])) as path:
+        for trial, more in each([
+            {},
+            {"SERVICE": "sshd", "RHOST": "2001:db8::7", "TTY": "ssh", "TYPE": "auth"},
+            {"SERVICE": "login", "RHOST": "", "TTY": "/dev/tty1"},
+            {"RHOST": 'a b="c"&uid=0\n2 open \udcff'},
+            {"SERVICE": "sshd", "RHOST": "x" * 5000, "TTY": "ssh"},
+        ]):
+            with trial:
+                environment = {f"PAM_{key}": value for key, value in more.items()}
+                equal(asked(folder, [LOGIN, path], "user", PASSWORD, **environment), 0, "the status for", more)
+        for trial, name in each([
+            b"\0" + b"0" * 12 + b"/pam?uid=0&rhost=here&event=end", b"\0" + b"0" * 12 + b"/pam?rhost=a\n2 open", b"\0pam?rhost=here",
+        ]):
+            with trial, socket.socket(socket.AF_UNIX) as client:
+                client.bind(name)
+                client.connect(str(path))
+                holds(client.recv(100).startswith(b"MECHS "), "the client is not greeted", name)
+    # Of a name's 108 bytes 18 come before `service=`.
+    equal(noted(folder), [
+        "", "service=sshd rhost=2001:db8::7 tty=ssh", "service=login tty=/dev/tty1", r'rhost="a b=\"c\"&uid=0\n2 open \ufffd"',
+        f"service=sshd rhost={'x' * (108 - 18 - len('service=sshd&rhost='))}", "rhost=here", "", "",
+    ], "what is noted of the clients")
+    is_clean(folder, 8, 5, 0)
+
+
 def codes(folder: str) -> None:
     """`check-code` takes the name from PAM_USER if it is given none, and needs one."""
     book_at = Path(folder, "book.toml")
@@ -123,7 +160,7 @@ def by_pamtester(folder: str) -> None:
         return
 
     def authenticates(name: str, environment: dict[str, str], user: str, text: str) -> Answer:
-        return ran(["pamtester", name, user, "authenticate"], f"{text}\n", env=environment)
+        return ran(["pamtester", "-I", "rhost=192.0.2.7", name, user, "authenticate"], f"{text}\n", env=environment)
 
     first = code(USER.secret, 0)
     with hall(folder, book([USER])):
@@ -139,6 +176,7 @@ def by_pamtester(folder: str) -> None:
                 answer = authenticates(name, environment, user, text)
                 equal(answer.status, due, "the status of pamtester", user, text, answer.output, answer.faults)
     is_clean(folder, 5, 3, 1)
+    equal(noted(folder), [f"service={it} rhost=192.0.2.7" for it in ["password"] * 3 + ["both"] * 2], "what is noted of the clients")
 
 
 suite.run_all()

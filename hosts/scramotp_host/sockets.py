@@ -2,13 +2,19 @@
 import contextlib
 import errno
 import os
+import re
 import shutil
 import socket
 import stat
 import struct
 from collections.abc import Iterator
+from secrets import token_hex
+from urllib.parse import parse_qsl, urlencode
 
 MOST_UNREAD = 1 << 20  # bytes that are kept for a peer that does not read
+LONGEST_NAME = 108  # bytes of a socket's name (unix(7))
+# What PAM says of a user (pam_exec(8)), by the name that it has in LOG.clients.
+OF_PAM = {"service": b"PAM_SERVICE", "rhost": b"PAM_RHOST", "tty": b"PAM_TTY"}
 
 
 def remove(path: str, made: os.stat_result) -> None:
@@ -77,3 +83,17 @@ def credentials(connection: socket.socket) -> tuple[int, int]:
     size = struct.calcsize("3i")
     process, user, _ = struct.unpack("3i", connection.getsockopt(socket.SOL_SOCKET, socket.SO_PEERCRED, size))
     return user, process
+
+
+def tells_of_pam(connection: socket.socket) -> None:
+    """Gives the socket of a client, before it connects, an abstract name that has what PAM says of its user, as much as fits: the server
+    can read that, and no line of the protocol has it. It begins with random digits, since no two sockets may have the same."""
+    told = {key: os.environb[it] for key, it in OF_PAM.items() if os.environb.get(it)}
+    with contextlib.suppress(OSError):  # without it the login is as good
+        connection.bind(f"\0{token_hex(6)}/pam?{urlencode(told, safe=':/')}"[:LONGEST_NAME].encode())
+
+
+def told_of_pam(name: str | bytes) -> dict[str, str]:
+    """What the name of a client's socket, as `accept` returns it, tells so. Whoever may connect can tell anything."""
+    found = re.fullmatch(rb"\0[0-9a-f]{12}/pam\?(.*)", name) if isinstance(name, bytes) else None
+    return {key: it for key, it in parse_qsl(found[1].decode(errors="replace")) if key in OF_PAM} if found else {}
