@@ -5,6 +5,7 @@ An example is a session of a shell: `$ ` stands before a command, `> ` before ea
 prints. It runs as it stands, after the examples that its page asks for.
 """
 import ast
+import os
 import re
 from collections.abc import Iterator
 from pathlib import Path
@@ -17,7 +18,7 @@ from suite import TOP, audit_says, each, has, prints
 
 PAGES = sorted(Path(TOP, "man").iterdir())
 # The pages that are of no command.
-OTHERS = {"scramotp.1", "scramotp-book.5", "scramotp-log.5", "serve-hall.8"}
+OTHERS = {"scramotp.1", "scramotp-book.5", "scramotp-log.5", "serve-hall.8", "log-report.1"}
 # The pages of hosts. What they would show, docs/DOORS.md has, and dovecot_auth.py and pam.py run it.
 OF_HOSTS = {"serve-dovecot-auth.8", "scramotp-host.8", "check-login.8"}
 # How far the text of a section, and a display in it, are from the margin.
@@ -80,7 +81,7 @@ def references(folder: str) -> None:
     there = {page.name for page in PAGES}
     for trial, page in each(PAGES):
         with trial:
-            told = re.findall(r"^\.Xr ((?:scramotp|serve|check)\S*) (\d)", page.read_text(encoding="utf-8"), re.M)
+            told = re.findall(r"^\.Xr ((?:scramotp|serve|check|log-)\S*) (\d)", page.read_text(encoding="utf-8"), re.M)
             equal([it for it in told if ".".join(it) not in there], [], "the pages that are not there, of", page.name)
             holds(told, "the page refers to none", page.name)
 
@@ -113,6 +114,16 @@ def synopses(folder: str) -> None:
             parts = re.findall(r"\[[^]]*\]|--\S+ \S+|\S+", synopsis)
             due = sorted(head if is_needed else f"[{head}]" for is_needed, head in options_of_it)
             equal(sorted(parts), due, "the synopsis of", command)
+
+
+def options_of_tools(folder: str) -> None:
+    """The page of log-report lists the options of its help, with the same arguments, and has them in its synopsis."""
+    told = shown(TOP / "man" / "log-report.1")
+    usage, _, help_ = ran([TOP / "tools" / "log-report", "--help"], env={**os.environ, "COLUMNS": "999"}).given().partition("options:\n")
+    due = [re.split(" {2,}", line.strip())[0] for line in help_.partition("\n\n")[0].splitlines()]
+    equal(sorted(dict(items(told["OPTIONS"]))), sorted(due), "the options")
+    synopsis = " ".join(told["SYNOPSIS"].split())
+    equal(synopsis, " ".join(usage.splitlines()[0].removeprefix("usage: ").replace("[-h] ", "").split()), "the synopsis")
 
 
 def displays(page: Path) -> str:
