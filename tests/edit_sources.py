@@ -24,7 +24,7 @@ ALWAYS = " always"
 EDITED = ("src/", "specs/")
 EDITED_BY_TESTS = ("tools/", "hosts/", "man/", "completions/", "packaging/", "docs/", "clib/", "plugins/", "Makefile", "tests/refuse_")
 EDITED_BY_TESTS += ("tests/note_files.c", "tests/turn_clock.c", "tests/pass_calls.c", "tests/c_library_", "tests/power_model.py")
-EDITED_BY_TESTS += ("tests/needs.py",)
+EDITED_BY_TESTS += ("tests/needs.py", "README.md")
 
 FUNCTION = re.compile(r"( *)(?:pub(?:\([a-z ]+\))? )?(?:(?:const|unsafe) )*fn (\w+)")
 NAME = re.compile(r"[\w'-]+")
