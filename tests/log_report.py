@@ -292,6 +292,19 @@ def who_is_let_in(folder: str) -> None:
             equal(report(folder, of_log, log, *words, "--csv"), report(folder, of_log, log, "--csv"), "the rows", words)
 
 
+def from_one_place(folder: str) -> None:
+    """Clients of one place are told once, whatever their processes are."""
+    user, log = Account("user", "SCRAM-SHA-256"), Path(folder, "log")
+    visits = [[*logged_in(user, "fyko", "own"), gone()] for _ in range(3)]
+    log.write_text(dealt([number for number, visit in enumerate(visits) for _ in visit], visits)[1])
+    Path(folder, "book.toml").write_text(book([user]))
+    clients = ["uid=0 pid=11 service=sshd rhost=192.0.2.7", "uid=0 pid=12 service=sshd rhost=192.0.2.7", "uid=1000 pid=13"]
+    Path(f"{log}.clients").write_text("".join(f"{number} open 2026-11-30T04:10:00Z {it}\n" for number, it in enumerate(clients, 1)))
+    page = page_of(folder, Path(folder, "book.toml"), log)
+    equal(page.tables["Who was let in"][1][-1], "uid=0 service=sshd rhost=192.0.2.7, uid=1000", "from where a user was let in")
+    equal([it[4] for it in page.tables["Sessions"][1:]], clients, "the clients of the sessions")
+
+
 HOSTILE = ["<script>alert(1)</script>", '"><img src=x onerror=alert(1)>', "%3Cscript%3E&lt;b&gt;", "</title></style>'", "x" * 255]
 
 
