@@ -2,7 +2,7 @@
 """editions.py: writes docs/editions/, a page for each promise with just the definitions that it reaches, in the order of reading."""
 import re
 from collections.abc import Iterator
-from dataclasses import dataclass, field
+from dataclasses import dataclass, field, replace
 from functools import cache
 from pathlib import Path
 
@@ -15,11 +15,24 @@ EDITIONS = TOP / "docs" / "editions"
 PROMISES = {
     "headline": ("An audit finds the first line at fault", [("sasl_log", "auditor.rt", "audit", "clean counts first fault")]),
     "service": ("A code that has passed is spent", [
-        ("sasl_desk", "laws.rt", "passed_counters_are_saved", ""), ("sasl_desk", "laws.rt", "no_counter_passes_twice", ""),
-        ("book_keeper", "keeper.rt", "judge", "")]),
+        ("book_keeper", "keeper.rt", "judge", "ok"), ("sasl_desk", "laws.rt", "passed_counters_are_saved", ""),
+        ("sasl_desk", "laws.rt", "no_counter_passes_twice", "")]),
     "login": ("A login is accepted exactly if RFC 5802 makes it valid", [("scram_ends", "laws.rt", "accepts_exactly_valid", "")]),
     "code": ("Each code has the reply that RFC 4226 and RFC 6238 give", [("otp_core", "token.rt", "attempt", "")]),
     "book": ("A text is read as a book exactly if it has a book's form", [("account_book", "book/text.rt", "read", "")]),
+}
+
+# What a page only names, by the words above it and its head: another page has the rest, or its reader need not know more.
+BY_CALLS = "`begin` ensures it of no calls, and each call of one call more, with the lines that it added to the log"
+ONLY_NAMED = {
+    "service": {
+        **dict.fromkeys(["IsBookText", "Book"], "book.txt"),
+        **dict.fromkeys(["IsTokenAttempt", "IsLegal", "IsCandidate", "IsPairCandidate", "TokenFields"], "code.txt"),
+        **dict.fromkeys(["IsValidLogin"], "login.txt"),
+        **dict.fromkeys(["Accounts", "entry_in", "MechKeys"], "headline.txt"),
+        **dict.fromkeys(["IsDeskAfter", "IsHallAfter"], BY_CALLS),
+        **dict.fromkeys(["State", "OpenSession"], "no line of a log shows it"),
+    },
 }
 
 Names = dict[str, tuple[str, str]]  # as a text calls it: the module, and the name there
@@ -38,6 +51,22 @@ class Declaration:
     text: str
     module: str
     imports: Names = field(repr=False, compare=False)
+
+    def name(self) -> str:
+        """The name of a definition or a type; that of a contract is empty."""
+        kinds = "abbrev|unfoldable|record|data|enum|struct|type|trait"
+        found = re.search(rf"^ *(?:pub(?:\(crate\))? )?(?:{kinds}) (?:pub )?(\w+)", self.text, re.MULTILINE)
+        return found[1] if found else ""
+
+    def only_named(self, why: str) -> "Declaration":
+        """It with only the words above it and its head, and where the rest is, or why it is not needed."""
+        lines = self.text.splitlines()
+        codes = [at for at, line in enumerate(lines) if not re.match(r" *(?:--|//)|module ", line)]
+        last = next(at for at in codes if re.search(r" (?:where|\{)$|;$", lines[at]) or re.match(rf" *{self.name()}\b.* =( |$)", lines[at]))
+        is_equation = re.match(rf" *{self.name()}\b", lines[last])
+        head = lines[:last] if is_equation else [*lines[:last], re.sub(r" (?:where|\{)$|;$", "", lines[last])]
+        mark = "//" if self.file.suffix == ".rt" else "--"
+        return replace(self, text="\n".join([*head, f"{mark} not shown here: {why}"]))
 
     def words(self) -> list[str]:
         """What it is made of, without the words above it and the texts in quotes. A name that it binds is not among them."""
@@ -129,22 +158,29 @@ def contract(crate: str, source: str, function: str, clauses: str) -> Declaratio
     return Declaration(file, (head + "".join(kept)).rstrip("\n"), "", imports_of(text))
 
 
-def reached(begin: list[Declaration]) -> list[Declaration]:
-    """These declarations and all that they need, each before what only it needs."""
+def reached(begin: list[Declaration], only_named: dict[str, str]) -> list[Declaration]:
+    """These declarations and all that they need, each before what only it needs; of those that are only named what their heads need."""
     found: dict[Declaration, None] = {}
     left = begin[::-1]
     while left:
         one = left.pop()
-        if one not in found:
-            found[one] = None
-            left += [*needed_by(one)][::-1]
+        why = only_named.get(one.name())
+        shown = one.only_named(why) if why else one
+        if shown not in found:
+            found[shown] = None
+            left += [*needed_by(shown)][::-1]
     return [*found]
+
+
+def declared_on(promise: str) -> list[Declaration]:
+    """What the page of a promise declares."""
+    return reached([contract(*each) for each in PROMISES[promise][1]], ONLY_NAMED.get(promise, {}))
 
 
 def edition(promise: str) -> str:
     """The page of a promise."""
-    title, contracts = PROMISES[promise]
-    found = reached([contract(*each) for each in contracts])
+    title = PROMISES[promise][0]
+    found = declared_on(promise)
     blocks, file, module = [], None, ""
     for one in found:
         heads = [f"==== {one.file.relative_to(CRATES)}"] if one.file != file else []
@@ -165,6 +201,12 @@ def stale() -> Iterator[str]:
         page = EDITIONS / f"{promise}.txt"
         if not page.exists() or page.read_text(encoding="utf-8") != edition(promise):
             yield f"{page.relative_to(TOP)}: python3 tests/editions.py writes it anew"
+    for promise, only_named in ONLY_NAMED.items():
+        for name, why in only_named.items():
+            other = why.removesuffix(".txt")
+            for it in [promise, *({other} & PROMISES.keys())]:
+                if name not in {one.name() for one in declared_on(it)}:
+                    yield f"{it}.txt has nothing of {name}, which {promise}.txt only names"
 
 
 def main() -> None:
