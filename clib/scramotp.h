@@ -50,7 +50,7 @@
  * time, and store the token before you act on a pass: else the code can pass again.
  *
  *     lock(account);
- *     number = scramotp_totp(secret, 20, &token, time(NULL), code, strlen(code));
+ *     number = scramotp_totp(secret, 20, &token, (uint64_t)time(NULL), code, strlen(code));
  *     if (!store(account, &token))
  *         number = SCRAMOTP_FAIL;
  *     unlock(account);
