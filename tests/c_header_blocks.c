@@ -13,9 +13,12 @@
 
 enum { accepted, refused };
 
+/* A line: also its LF and a NUL. */
+enum { LINE = SCRAMOTP_MOST_RECEIVED + 2 };
+
 static size_t get(char *text)
 {
-    if (!fgets(text, 2100, stdin))
+    if (!fgets(text, LINE, stdin))
         return 0;
     text[strcspn(text, "\n")] = '\0';
     return strlen(text);
@@ -36,7 +39,7 @@ static int fill(const char *name, scramotp_entry *entry)
 static int serve(const char *nonce)
 {
     static const uint8_t decoy_key[32] = {1, 2, 3};
-    char first[2100], final[2100], challenge[SCRAMOTP_FIRST_ROOM], verdict[SCRAMOTP_FINAL_ROOM];
+    char first[LINE], final[LINE], challenge[SCRAMOTP_FIRST_ROOM], verdict[SCRAMOTP_FINAL_ROOM];
     size_t first_len, final_len, challenge_len, verdict_len;
     scramotp_names names;
     scramotp_entry entry;
@@ -48,7 +51,7 @@ static int log_in(const char *nonce)
 {
     static const char password[] = "pencil";
     const size_t password_len = 6;
-    char challenge[2100], verdict[2100], first[SCRAMOTP_CLIENT_FIRST_ROOM], final[SCRAMOTP_CLIENT_FINAL_ROOM];
+    char challenge[LINE], verdict[LINE], first[SCRAMOTP_CLIENT_FIRST_ROOM], final[SCRAMOTP_CLIENT_FINAL_ROOM];
     size_t first_len, final_len, challenge_len, verdict_len;
     uint8_t signature[32];
 #include "client.inc"

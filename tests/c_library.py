@@ -520,6 +520,30 @@ def written(name: str, room: int, *given: Any, after: tuple[Any, ...] = ()) -> t
     return call(name, *given, out, ctypes.c_size_t(room), ctypes.byref(size), *after), out.raw[:-1], size.value
 
 
+def longest(folder: str) -> None:
+    """Each message that is received may have as many bytes as the header says, here by an extension, and no more."""
+    most = int(re.search(r"SCRAMOTP_MOST_RECEIVED = (\d+)", (TOP / "clib/scramotp.h").read_text())[1])
+    for trial, of in each([SHA1, SHA256]):
+        with trial:
+            mechanism = FUNCTIONS[of["mechanism"]][1]
+            entry, nonce = entry_of(mechanism, 4096, bytes.fromhex(of["salt"]), b"pencil"), of["nonce"].encode()
+            client = client_of(nonce=of["first"].partition("r=")[2].encode(), mechanism=mechanism)
+            signature = ctypes.create_string_buffer(base64.b64decode(of["verdict"][2:]).ljust(32, b"\0"), 32)
+            none, first, challenge = (None, ctypes.c_size_t(0)), of["first"].encode(), of["challenge"].encode()
+            for more, numbers in (0, (0, 0, 0, 0)), (1, (20, 32, 24, 24)):
+                extended = [(of[it] + ",x=").ljust(most + more, "x").encode() for it in ("first", "challenge", "verdict")]
+                room = most + more - len(of["final"])
+                final = final_for(of, of["first"], more=",x=".ljust(room, "x"))[1].encode()
+                equal(len(final), most + more)
+                found = [
+                    written("server_first", 700, entry, extended[0], nonce)[0],
+                    written("server_final", 700, entry, *none, first, challenge, final)[0],
+                    written("client_final", 2000, client, b"pencil", extended[1], after=(ctypes.create_string_buffer(32),))[0],
+                    call("client_check", number(mechanism), signature, extended[2]),
+                ]
+                equal(tuple(found), numbers, most + more)
+
+
 def rooms(folder: str) -> None:
     """A message is written if there is room for it, and nothing after it is changed; else 93 is returned and nothing is written."""
     for trial, of in each([SHA1, SHA256]):
