@@ -973,16 +973,17 @@ def fuzzed(folder: str) -> None:
     leaves memory behind. With DURATION in the environment so many seconds of them, each time from the next seed."""
     ends, want = time.monotonic() + int(os.environ.get("DURATION") or 0), {0, 20, 24, 26, 28, 30, 31, 32, 34, 36, 42, 43, 44}
     want |= {63, 64, 65, 66, 90, 91, 92, 93, 96, 97, 98}
-    if program := sanitized("c_library_fuzz.c", "fuzz", "address,undefined"):
-        for seed in itertools.count(suite.SEED):
+    program, command = sanitized("c_library_fuzz.c", "fuzz", "address,undefined"), watched("random input", "--leak-check=full")
+    plain = compiled(TOP / "tests/c_library_fuzz.c", "fuzz_plain")
+    for seed in itertools.count(suite.SEED):
+        if program:
             seen = seen_by(program, seed)
             holds(seen >= want, "numbers that were seen", sorted(seen), "from seed", seed)
-            if time.monotonic() >= ends:
-                break
-    if command := watched("random input", "--leak-check=full"):
-        program = compiled(TOP / "tests/c_library_fuzz.c", "fuzz_plain")
-        answer = ran([*command, program, str(suite.SEED), "300"])
-        equal((answer.status, answer.faults), (0, ""), "from seed", suite.SEED)
+        if command:
+            answer = ran([*command, plain, str(seed), "300"])
+            equal((answer.status, answer.faults), (0, ""), "from seed", seed)
+        if time.monotonic() >= ends:
+            break
 
 
 def threads(folder: str) -> None:
