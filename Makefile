@@ -205,9 +205,10 @@ RANDOM = hall.py sessions.py hall_kill.py login_kill.py books.py machine.py dove
 # Each run begins from another seed, which it prints: make fuzz SEED=7 tries the same again.
 SEED := $(or $(SEED),$(shell date +%s))
 COUNT ?= 5000
-fuzz: needed build
+fuzz: needed build libscramotp
 	@echo 'SEED=$(SEED) COUNT=$(COUNT)'
 	SEED=$(SEED) COUNT=$(COUNT) python3 tests/fuzz.py $(PROGRAM)
+	SEED=$(SEED) DURATION=60 python3 tests/c_library.py $(PROGRAM) fuzzed
 	SEED=$(SEED) DURATION=60 JOBS=$(JOBS) python3 tests/run.py $(PROGRAM) $(RANDOM)
 
 bench: build libscramotp

@@ -2,17 +2,20 @@
  * codes (RFC 4226, RFC 6238).
  *
  * Each call is proved to do what is said here. No call keeps a pointer, or shares anything with another call, so any thread may make any
- * call at any time. Only scramotp_audit and scramotp_report allocate memory, by malloc, and they have freed all when they return.
+ * call at any time. Only scramotp_audit and scramotp_report allocate memory, by malloc, and they have freed all when they return. A login
+ * is tested in threads with stacks of 128 KiB.
  *
  * You owe each call pointers to as many bytes as it says, which no other thread writes meanwhile. What a call writes to overlaps none of
  * its other arguments. A pointer is NULL only if the length after it is 0; `at` in scramotp_bytes never is. All else is judged: what a
  * client sends may be any bytes.
  *
  * Each call returns 0 if it did what it says, else one of the numbers at the end of this page. Then what it writes to is as it was, except
- * that a refusal (32 to 37) comes with a message, and a code that does not pass (43) is counted.
+ * that a refusal (32 to 37) comes with a message, that a code that does not pass (43) is counted, and that an audit and a report tell where
+ * a log is at fault.
  *
  * A login. Keep the entry, the client's first message and the challenge until the client's final message is there. There `get` and
- * `put` receive and send a message, `fill` makes the entry of the account of a name, and `nonce` has 24 fresh characters.
+ * `put` receive and send a message, `fill` makes the entry of the account of a name for the mechanism that the client has named, here
+ * SCRAM-SHA-256, and `nonce` has 24 fresh characters. Who is accepted acts as `names.act_as`, or as `names.name` if that is empty.
  *
  *     first_len = get(first);
  *     if (scramotp_read_names(first, first_len, &names) != 0)
@@ -29,8 +32,7 @@
  *         put(verdict, verdict_len);
  *     return number == SCRAMOTP_OK ? accepted : refused;
  *
- * examples/login.c, examples/client.c, examples/logged.c, examples/verifier.c, examples/audit.c and examples/report.c are whole
- * programs.
+ * Whole programs are in clib/examples of the sources: login.c, client.c, code.c, logged.c, verifier.c, audit.c and report.c.
  *
  * A client's login. Its struct stays the same in all calls.
  *
@@ -50,7 +52,7 @@
  * time, and store the token before you act on a pass: else the code can pass again.
  *
  *     lock(account);
- *     number = scramotp_totp(secret, 20, &token, time(NULL), code, strlen(code));
+ *     number = scramotp_totp(secret, 20, &token, (uint64_t)time(NULL), code, strlen(code));
  *     if (!store(account, &token))
  *         number = SCRAMOTP_FAIL;
  *     unlock(account);
@@ -71,7 +73,10 @@ extern "C" {
 /* The mechanisms are SCRAM-SHA-1, whose keys have 20 bytes, and SCRAM-SHA-256, whose keys have 32. A TOTP token can also use SHA-512. */
 enum { SCRAMOTP_SHA_1 = 1, SCRAMOTP_SHA_256 = 256, SCRAMOTP_SHA_512 = 512 };
 
-/* The room that the longest messages need. */
+/* The most bytes of a message that is received: a longer one is refused. */
+enum { SCRAMOTP_MOST_RECEIVED = 2048 };
+
+/* The room that the longest messages need which are written: a server's challenge and its final message, and a client's messages. */
 enum { SCRAMOTP_FIRST_ROOM = 618, SCRAMOTP_FINAL_ROOM = 46 };
 enum { SCRAMOTP_CLIENT_FIRST_ROOM = 1796, SCRAMOTP_CLIENT_FINAL_ROOM = 1592 };
 
@@ -99,7 +104,7 @@ typedef struct {
 } scramotp_names;
 
 /* Makes the entry of a password: 1 to 1024 bytes from space to tilde. The salt has 1 to 64 bytes: take 16 fresh random ones. The count
- * decides how long the call takes. Keep the entry, and not the password.
+ * decides how long the call takes: take 4096 or more (RFC 7677). Keep the entry, and not the password.
  * Numbers: 90 mechanism, 65 count, 64 salt, 91 password; the first of these that applies. */
 uint32_t scramotp_keys(uint32_t mechanism, uint32_t count, const void *salt, size_t salt_len, const void *password, size_t password_len,
     scramotp_entry *entry);
@@ -139,7 +144,7 @@ uint32_t scramotp_server_first(const scramotp_entry *entry, const void *client_f
     size_t server_nonce_len, void *out, size_t out_room, size_t *out_len);
 
 /* Judges a login by its three messages, the first two as they were received and sent, and writes the server's final message. `act_as`
- * are the other names that the account may act as. The answer is 0 exactly if the login is valid.
+ * are the `act_as_len` other names that the account may act as. The answer is 0 exactly if the login is valid.
  * Numbers: 90, 65, 64, 66 of the entry, 20 to 23 and 31 of the first two messages, 93 room; the first of these that applies. Else 32 to
  * 37, the refusal that is due, and the message that tells it is written. */
 uint32_t scramotp_server_final(const scramotp_entry *entry, const scramotp_bytes *act_as, size_t act_as_len, const void *client_first,
@@ -149,7 +154,7 @@ uint32_t scramotp_server_final(const scramotp_entry *entry, const scramotp_bytes
 /* A client's login. */
 typedef struct {
     scramotp_bytes name;    /* who logs in: 1 to 255 bytes from space to tilde */
-    scramotp_bytes act_as;  /* the name to act as (authzid): also such bytes, or empty for none */
+    scramotp_bytes act_as;  /* the name to act as (authzid): also such bytes, or {"", 0} for none */
     scramotp_bytes nonce;   /* 1 to 256 bytes from `!` to tilde, without a comma: take the base64 of 18 fresh random bytes */
     uint32_t mechanism;
     uint32_t least;         /* the least iteration count that the client accepts, at least 1: take 4096 */
@@ -273,8 +278,8 @@ typedef struct {
     uint64_t codes_passed;  /* of a clean log, how many codes have passed, or pairs of codes in a row */
 } scramotp_audited;
 
-/* Judges a log (docs/FORMATS.md) by the text of the account book that it began with. The answer is 0 exactly if the log is clean and has at
- * most 1000000 lines; then the struct has its counts.
+/* Judges a log by the text of the account book that it began with (docs/FORMATS.md; logged.c writes both). The answer is 0 exactly if the
+ * log is clean and has at most 1000000 lines; then the struct has its counts.
  * Numbers: 60 to 67 of the book, 87 for more lines, and 99, which only a lack of memory should bring; with these the struct is as it was.
  * Else 80 to 86, why the first line at fault is at fault, and the struct has its number and 0 as each count. */
 uint32_t scramotp_audit(const void *book, size_t book_len, const void *log, size_t log_len, scramotp_audited *audited);

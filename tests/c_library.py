@@ -8,11 +8,13 @@ in crates/c_library/out. Each example is compiled with warnings as errors, and l
 import base64
 import ctypes
 import functools
+import itertools
 import os
 import pathlib
 import re
 import subprocess
 import sys
+import time
 import urllib.parse
 from collections.abc import Callable, Iterator
 from typing import Any, NamedTuple
@@ -142,6 +144,29 @@ def published(folder: str) -> None:
     """The exchanges of both RFCs, byte for byte, with each example."""
     said = "user is logged in as user"
     logins_are([Login(it["mechanism"], it, [], it["first"], it["final"], [it["challenge"], it["verdict"]], said) for it in (SHA1, SHA256)])
+
+
+def blocks_of_header(folder: str) -> None:
+    """The blocks of code in the header, as they stand, serve a login, log in, and judge a code that passes once."""
+    comment = (TOP / "clib/scramotp.h").read_text().partition("*/")[0]
+    for name, text in zip(["server", "client", "code"], re.findall(r"(?:^ \*     .*\n)+", comment, re.M), strict=True):
+        pathlib.Path(folder, f"{name}.inc").write_text(text.replace(" *     ", ""))
+    program = compiled(TOP / "tests/c_header_blocks.c", "blocks", "-I", folder, library() / "libscramotp.a")
+    of, wrong = {**SHA256, "nonce": SHA256["nonce"][:24]}, "e=invalid-proof"
+    decoy = {**of, "salt": decoy_salt("SCRAM-SHA-256", "nobody").hex()}
+    for trial, (it, name, password, status) in each([(of, "user", b"pencil", 0), (of, "user", b"pen", 1), (decoy, "nobody", b"pencil", 1)]):
+        with trial:
+            first = of["first"].replace("user", name)
+            challenge, final, verdict = final_for(it, first, password)
+            answer = ran([program, "server", of["nonce"]], f"{first}\n{final}\n")
+            equal(answer, (status, f"{challenge}\n{verdict if status == 0 else wrong}\n", ""))
+    first = f"n,,n=user,r={'abcdEFGH' * 3}"
+    challenge, final, verdict = final_for(SHA256, first)
+    for status, said in (0, verdict), (1, wrong):
+        equal(ran([program, "client", "abcdEFGH" * 3], f"{challenge}\n{said}\n"), (status, f"{first}\n{final}\n", ""), said)
+    right = code(bytes.fromhex(SEEDS["sha1"]), int(time.time()) // 30)
+    told = "".join(f"lock 7\nstore 7, failures {it}\nunlock 7\n{number}\n" for it, number in [(0, 0), (1, 43)])
+    equal(ran([program, "code", right]), (0, told, ""))
 
 
 # The words for the example of codes, and what it has to print: RFC 4226, appendix D, and RFC 6238, appendix B.
@@ -495,6 +520,30 @@ def written(name: str, room: int, *given: Any, after: tuple[Any, ...] = ()) -> t
     return call(name, *given, out, ctypes.c_size_t(room), ctypes.byref(size), *after), out.raw[:-1], size.value
 
 
+def longest(folder: str) -> None:
+    """Each message that is received may have as many bytes as the header says, here by an extension, and no more."""
+    most = int(re.search(r"SCRAMOTP_MOST_RECEIVED = (\d+)", (TOP / "clib/scramotp.h").read_text())[1])
+    for trial, of in each([SHA1, SHA256]):
+        with trial:
+            mechanism = FUNCTIONS[of["mechanism"]][1]
+            entry, nonce = entry_of(mechanism, 4096, bytes.fromhex(of["salt"]), b"pencil"), of["nonce"].encode()
+            client = client_of(nonce=of["first"].partition("r=")[2].encode(), mechanism=mechanism)
+            signature = ctypes.create_string_buffer(base64.b64decode(of["verdict"][2:]).ljust(32, b"\0"), 32)
+            none, first, challenge = (None, ctypes.c_size_t(0)), of["first"].encode(), of["challenge"].encode()
+            for more, numbers in (0, (0, 0, 0, 0)), (1, (20, 32, 24, 24)):
+                extended = [(of[it] + ",x=").ljust(most + more, "x").encode() for it in ("first", "challenge", "verdict")]
+                room = most + more - len(of["final"])
+                final = final_for(of, of["first"], more=",x=".ljust(room, "x"))[1].encode()
+                equal(len(final), most + more)
+                found = [
+                    written("server_first", 700, entry, extended[0], nonce)[0],
+                    written("server_final", 700, entry, *none, first, challenge, final)[0],
+                    written("client_final", 2000, client, b"pencil", extended[1], after=(ctypes.create_string_buffer(32),))[0],
+                    call("client_check", number(mechanism), signature, extended[2]),
+                ]
+                equal(tuple(found), numbers, most + more)
+
+
 def rooms(folder: str) -> None:
     """A message is written if there is room for it, and nothing after it is changed; else 93 is returned and nothing is written."""
     for trial, of in each([SHA1, SHA256]):
@@ -822,8 +871,8 @@ def size_line(row: dict[str, str]) -> str:
 
 def interface(folder: str) -> None:
     """Both libraries have the symbols of data/c_library.csv and no others, need only memcpy, memmove, memset and memcmp, and for memory
-    malloc, realloc and free, and the header's structures, and what they hold, have the places and sizes of that table. The header has the
-    version of the program."""
+    malloc, realloc and free, and all their data is constant, but for one byte of the kit's. The header's structures, and what they hold,
+    have the places and sizes of that table, and its numbers are those of data/c_numbers.csv. It has the version of the program."""
     rows = rows_of(DATA / "c_library.csv")
     symbols = {row["name"] for row in rows if row["kind"] == "call"}
     for words in ["nm", "-D", library() / "libscramotp.so.0"], ["nm", "-g", library() / "libscramotp.a"]:
@@ -832,18 +881,70 @@ def interface(folder: str) -> None:
         needed = {name.partition("@")[0] for kind, name in found if kind == "U"}
         equal(needed - {"memcpy", "memmove", "memset", "memcmp", "malloc", "realloc", "free"}, set(), words[-1])
         equal({kind for kind, _ in found} - {"T", "U", "w"}, set(), words[-1])
+    sections = ran(["size", "-A", library() / "libscramotp.a"]).given()
+    written = re.findall(r"^\.(?:data(?!\.rel\.ro)|bss|tdata|tbss)\S*\s+(\d+)", sections, re.M)
+    equal(sum(map(int, written)), 1, "bytes that are not constant")
     want = {row["name"]: f"{row['at']} {row['bytes']}".strip() for row in rows if row["kind"] != "call"}
     lines = "".join(size_line(row) for row in rows if row["kind"] != "call")
+    numbers = {row["name"]: row["value"] for row in rows_of(DATA / "c_numbers.csv")}
+    lines += "".join(f'    printf("{it} %u\\n", (unsigned){it});\n' for it in numbers)
     source = pathlib.Path(folder, "sizes.c")
     source.write_text(f'#include "scramotp.h"\n#include <stdio.h>\n\nint main(void)\n{{\n{lines}    return 0;\n}}\n')
-    equal(dict(line.split(" ", 1) for line in ran([compiled(source, "sizes")]).output.splitlines()), want)
+    equal(dict(line.split(" ", 1) for line in ran([compiled(source, "sizes")]).output.splitlines()), want | numbers)
     version = re.search(r'\.version\("(.*)"\)', (TOP / "crates/command_words/src/commands.rt").read_text())[1]
     equal(re.search("Version: (.*)", (TOP / "clib/scramotp.pc.in").read_text())[1], version)
     major, minor, patch = map(int, version.split("."))
     header = (TOP / "clib/scramotp.h").read_text()
     equal(re.search("define SCRAMOTP_VERSION (.*)", header)[1], str(10000 * major + 100 * minor + patch), "the version in the header")
-    declared = set(re.findall(r"\bscramotp_\w+(?=\()", re.sub(r"/\*.*?\*/", "", header, flags=re.S)))
-    equal(declared, symbols)
+    declared = re.sub(r"/\*.*?\*/", "", header, flags=re.S)
+    equal({*re.findall(r"\bscramotp_\w+(?=\()", declared)}, symbols)
+    equal({*re.findall(r"\bSCRAMOTP_\w+(?= = )", declared)}, {*numbers})
+
+
+# What C calls the structures, the parameters and the types of crates/c_library, as the kit has them cross to C: a slice is a pointer and a
+# length, and an allocator is nothing.
+STRUCTURES = {
+    "StoredEntry": "scramotp_entry", "Bytes": "scramotp_bytes", "Names": "scramotp_names", "ClientLogin": "scramotp_client",
+    "HotpToken": "scramotp_hotp_token", "TotpToken": "scramotp_totp_token", "LineNumbers": "scramotp_line", "Audited": "scramotp_audited",
+}
+TYPES = {"u8": "uint8_t", "u32": "uint32_t", "u64": "uint64_t", "i64": "int64_t", "usize": "size_t", **STRUCTURES}
+RENAMED = {"numbers": "line"}
+LENGTHS = {"at": "len", "out": "out_room"}
+
+
+def in_words_of_c(name: str, of: str) -> list[str]:
+    """How C declares a parameter or a field of this name and this type of Rattle."""
+    name, of = RENAMED.get(name, name), re.sub(r"<'\w+>|'a ", "", of)
+    pointed = re.sub("^&(mut )?", "", of)
+    const, star = "const " * (of == f"&{pointed}"), "*" * (of != pointed)
+    if array := re.fullmatch(r"\[(\w+); (\d+)\]", pointed):
+        return [f"{const}{TYPES[array[1]]} {name}[{array[2]}]"]
+    if item := re.fullmatch(r"\[(\w+)\]", pointed):
+        return [f"{const}{TYPES[item[1]] if item[1] != 'u8' else 'void'} *{name}", f"size_t {LENGTHS.get(name, name + '_len')}"]
+    return [f"{const}{TYPES[pointed]} {star}{name}"] if of != "Global" else []
+
+
+def parts_in_c(parts: str) -> list[str]:
+    """How C declares the parameters or the fields that Rattle declares so."""
+    found = re.findall(r"(\w+): ([^,\[]*(?:\[[^\]]*\])?[^,]*)", re.sub("///.*", "", parts))
+    return [word for name, of in found for word in in_words_of_c(name, of.strip())]
+
+
+def declarations(folder: str) -> None:
+    """The header declares each exported function and each structure of crates/c_library with the parameters, the fields and the types that
+    it has there, in their order."""
+    header = re.sub(r"\s+", " ", re.sub(r"/\*.*?\*/", "", (TOP / "clib/scramotp.h").read_text(), flags=re.S))
+    sources = "".join(it.read_text(encoding="utf-8") for it in sorted((TOP / "crates/c_library/src").glob("*.rt")))
+    calls = re.findall(r'^pub extern "C" fn (\w+)\((.*?)\) -> u32', sources, re.M | re.S)
+    want = {name: parts_in_c(of) for name, of in calls}
+    equal({*want}, {row["name"] for row in rows_of(DATA / "c_library.csv") if row["kind"] == "call"})
+    equal({name: of.split(", ") for name, of in re.findall(r"uint32_t (scramotp_\w+)\((.*?)\);", header)}, want)
+    structures = re.findall(r"^#\[repr\(C\)\]\n#\[derive\(Drop\)\]\npub struct (\w+)\S* {(.*?)^}", sources, re.M | re.S)
+    want = {STRUCTURES[name]: parts_in_c(of) for name, of in structures}
+    want["scramotp_names"] = [it.replace("uint8_t", "char") for it in want["scramotp_names"]]
+    equal({*want}, {*STRUCTURES.values()})
+    found = re.findall(r"typedef struct {(.*?)} (\w+);", header)
+    equal({name: of.strip().rstrip(";").split("; ") for of, name in found}, want)
 
 
 def sanitized(source: str, to: str, kind: str) -> pathlib.Path | None:
@@ -856,19 +957,42 @@ def sanitized(source: str, to: str, kind: str) -> pathlib.Path | None:
     return compiled(TOP / "tests" / source, to, *words)
 
 
+def watched(what: str, *tool: str) -> list[str] | None:
+    """The command of valgrind with this tool, or None if it is not there. The sanitizers of cc see what the library does only where that
+    calls C's memcpy and its like, since nothing of it is compiled with them; valgrind sees all of it."""
+    return ["valgrind", "-q", "--error-exitcode=9", *tool] if has(f"{what} under valgrind", "valgrind") else None
+
+
+def seen_by(program: pathlib.Path, seed: int) -> set[int]:
+    """The numbers that the calls return for random input from this seed."""
+    return {int(it) for it in ran([program, str(seed), "20000"]).given().split()}
+
+
 def fuzzed(folder: str) -> None:
-    """Random and changed messages in buffers of exactly their length, and NULL where the length is 0: no call reads or writes outside."""
-    if program := sanitized("c_library_fuzz.c", "fuzz", "address,undefined"):
-        seen = {int(it) for it in ran([program, str(suite.SEED), "20000"]).given().split()}
-        want = {0, 20, 24, 26, 28, 30, 31, 32, 34, 36, 42, 43, 44, 63, 64, 65, 66, 90, 91, 92, 93, 96, 97, 98}
-        holds(seen >= want, "numbers that were seen", sorted(seen))
+    """Random and changed messages in buffers of exactly their length, and NULL where the length is 0: no call reads or writes outside, or
+    leaves memory behind. With DURATION in the environment so many seconds of them, each time from the next seed."""
+    ends, want = time.monotonic() + int(os.environ.get("DURATION") or 0), {0, 20, 24, 26, 28, 30, 31, 32, 34, 36, 42, 43, 44}
+    want |= {63, 64, 65, 66, 90, 91, 92, 93, 96, 97, 98}
+    program, command = sanitized("c_library_fuzz.c", "fuzz", "address,undefined"), watched("random input", "--leak-check=full")
+    plain = compiled(TOP / "tests/c_library_fuzz.c", "fuzz_plain")
+    for seed in itertools.count(suite.SEED):
+        if program:
+            seen = seen_by(program, seed)
+            holds(seen >= want, "numbers that were seen", sorted(seen), "from seed", seed)
+        if command:
+            answer = ran([*command, plain, str(seed), "300"])
+            equal((answer.status, answer.faults), (0, ""), "from seed", seed)
+        if time.monotonic() >= ends:
+            break
 
 
 def threads(folder: str) -> None:
-    """Eight threads log in at once, and each login is accepted."""
+    """Eight threads log in at once, each login is accepted, and no two threads use the same memory."""
     if program := sanitized("c_library_threads.c", "threads", "thread"):
-        answer = ran([program])
-        equal((answer.status, answer.output, answer.faults), (0, "8 threads, 4000 logins\n", ""))
+        equal(ran([program, "500"]), (0, "8 threads, 4000 logins\n", ""))
+    if command := watched("eight threads", "--tool=helgrind"):
+        program = compiled(TOP / "tests/c_library_threads.c", "threads_plain", "-pthread", library() / "libscramotp.a")
+        equal(ran([*command, program, "20"]), (0, "8 threads, 160 logins\n", ""))
 
 
 if not ARCHIVES:

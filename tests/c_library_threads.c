@@ -1,11 +1,16 @@
-/* Logs in from eight threads with small stacks at once, as in RFC 7677, and prints how many logins are accepted. */
+/* Logs in from eight threads with small stacks at once, as in RFC 7677, and prints how many logins are accepted.
+ *
+ * Usage: c_library_threads LOGINS
+ *
+ * Each thread logs in LOGINS times. */
 #include "scramotp.h"
 
 #include <pthread.h>
 #include <stdio.h>
+#include <stdlib.h>
 #include <string.h>
 
-enum { THREADS = 8, LOGINS = 500, STACK = 128 * 1024 };
+enum { THREADS = 8, STACK = 128 * 1024 };
 
 static const char first[] = "n,,n=user,r=rOprNGfwEbeRWgbNEkqO";
 static const char nonce[] = "%hvYDpWUa2RaTCAfuxFIlj)hNlF$k0";
@@ -13,6 +18,7 @@ static const char final[] = "c=biws,r=rOprNGfwEbeRWgbNEkqO%hvYDpWUa2RaTCAfuxFIlj
 static const char want[] = "v=6rriTRBi23WpRR/wtup+mMhUZUn/dB5nLTJRsjl95G4=";
 static const uint8_t salt[16] = {91, 109, 153, 104, 157, 18, 53, 142, 236, 160, 75, 20, 18, 54, 250, 129};
 static scramotp_entry entry;
+static int logins;
 
 static int is_accepted(void)
 {
@@ -27,16 +33,17 @@ static int is_accepted(void)
 
 static void *log_in(void *accepted)
 {
-    for (int i = 0; i < LOGINS; i++)
+    for (int i = 0; i < logins; i++)
         *(int *)accepted += is_accepted();
     return NULL;
 }
 
-int main(void)
+int main(int count, char **words)
 {
     pthread_t threads[THREADS];
     pthread_attr_t small;
     int accepted[THREADS] = {0}, all = 0;
+    logins = count == 2 ? atoi(words[1]) : 0;
     if (scramotp_keys(SCRAMOTP_SHA_256, 4096, salt, sizeof salt, "pencil", 6, &entry) != 0)
         return 1;
     pthread_attr_init(&small);

@@ -495,7 +495,7 @@ def recorded(folder: str) -> None:
                     shape = re.compile(r"c=([^,]*),r=[^,]*,p=[^,]*")
                     equal(shape.fullmatch(final)[1], shape.fullmatch(row["client_final"])[1])
                     result, answer, *_ = server.goes_on(final)
-                    equal((result == OK, row["final_by_papers"][:2]), (row["tag"] == "ok", "OK" if row["tag"] == "ok" else "NO"))
+                    equal((result == OK, row["final_due"][:2]), (row["tag"] == "ok", "OK" if row["tag"] == "ok" else "NO"))
                     holds(result != OK or bytes.fromhex(answer).decode() == verdict, "the server's signature")
 
 
