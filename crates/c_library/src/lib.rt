@@ -4,7 +4,7 @@
 //! Each exported function is one call of `clib/scramotp.h`, which says how a program in C uses it. No call keeps anything
 //! between calls, or fails in a way that its number does not tell: the contract of each says which demands it makes of its arguments, in
 //! order, what it does if all are met, and that it else returns the number of the first that is not and changes nothing. Only the audit
-//! allocates memory.
+//! and the report allocate memory.
 #![tactic(auto)]
 
 mod act_as;
