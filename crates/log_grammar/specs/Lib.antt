@@ -17,6 +17,9 @@ pub mod VersionTwo
 pub mod Versions
 pub mod Books
 pub mod Counts
+pub mod WholeSessions
+pub mod CleanLogs
+pub mod Faults
 pub mod Upgrades
 pub mod state_machine
 pub mod laws

@@ -21,3 +21,4 @@ pub mod NumberedReasons
 pub mod NumberedReplies
 pub mod NumberedLogins
 pub mod UpgradedLogs
+pub mod WholeLogs
