@@ -3,7 +3,6 @@
 pub mod FitAccounts
 pub mod LastLines
 pub mod LineLaws
-pub mod Histories
 pub mod KindLaws
 pub mod LogLaws
 pub mod Completions

@@ -13,7 +13,7 @@ use Rattle.log_grammar.specs.laws.LastLines.{EndsWith}
 use Rattle.log_grammar.specs.Places.{between, halted}
 use Rattle.log_grammar.specs.Demands.{Accounts, demands}
 use Rattle.log_grammar.specs.Sessions.{closing}
-use Rattle.log_grammar.specs.laws.Histories.{IsHistory}
+use Rattle.log_grammar.specs.Histories.{IsHistory}
 use Rattle.log_grammar.specs.Numbered.{Numbered, of_number, Visit, let_in, turned_away, visit_lines, visit_told, visit_place, IsNumberedLogUpTo}
 use Rattle.log_grammar.specs.Numbered.{MayEndNumbered}
 use Rattle.log_grammar.specs.NumberedLines.{numbered_text, IsNumberedLine, IsNumberedLineWritable}

@@ -4,11 +4,10 @@ use Rattle.std.specs.Prelude.{flat_map}
 use Rattle.std.specs.List.{AllByRecursion}
 use Rattle.account_book.specs.AccountAttempt.{AccountAttempt}
 use Rattle.log_grammar.specs.Lines.{LogLine, header_one, ended, log_bytes, IsLogLineWritable}
-use Rattle.log_grammar.specs.laws.LastLines.{EndsWith}
 use Rattle.log_grammar.specs.Places.{MayEnd}
 use Rattle.log_grammar.specs.Demands.{Accounts, demands}
 use Rattle.log_grammar.specs.Sessions.{RecordedSession, session_lines, session_place, session_told, SessionMeets}
-use Rattle.log_grammar.specs.laws.Histories.{IsHistory}
+use Rattle.log_grammar.specs.Histories.{IsHistory}
 use Rattle.log_grammar.specs.laws.BySessions.{IsClosed, AreFinished, IsLogOf}
 use Rattle.log_grammar.specs.LogKinds.{IsCleanOf}
 use Rattle.log_grammar.specs.VersionOne.{version_one}
@@ -56,7 +55,7 @@ module _ (accounts : Accounts) where
       (subst (λ (t : List AccountAttempt). AreSessions accounts (session_lines s) t) (sym (append-nil (session_told s)))
       (last_session (finished_session_is_whole accounts s good.0 (finished_session_may_end s finished))))
   finished_trees_are_sessions (s ∷ t ∷ more) finished good =
-      session_and_more (finished_session_is_whole accounts s good.0 (finished_session_may_end s (inl finished.0))) finished.0
+      session_and_more finished.0.0 (finished_session_is_whole accounts s good.0 (finished_session_may_end s (inl finished.0))) finished.0.1
       (finished_trees_are_sessions (t ∷ more) finished.1 good.1)
 
   -- whole sessions, one after another, have trees
@@ -73,7 +72,7 @@ module _ (accounts : Accounts) where
         finished = ended_session_is_finished t.tree t.ends;
         good = (t.good, tt);
       }
-  sessions_have_trees lines told (session_and_more {lines = own} {more = others} {told = mine} {later = later} s closed more) =
+  sessions_have_trees lines told (session_and_more {lines = own} {more = others} {told = mine} {later = later} before s closed more) =
       let t = whole_session_has_tree accounts own mine s in
       let rest = sessions_have_trees others later more in
       record {
@@ -83,7 +82,7 @@ module _ (accounts : Accounts) where
         told_are = sym (ap (λ (l : List AccountAttempt). l ++ flat_map session_told rest.sessions) t.told_are
             ∙ ap (λ (l : List AccountAttempt). mine ++ l) (sym rest.told_are));
         finished = closed_and_finished_are_finished t.tree rest.sessions
-            (subst (λ (l : List LogLine). EndsWith l (ended ∷ [])) (sym t.are) closed) rest.finished;
+            (before, t.are ∙ closed) rest.finished;
         good = (t.good, rest.good);
       }
 
