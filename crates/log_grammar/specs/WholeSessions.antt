@@ -28,13 +28,15 @@ pub data AreCodes (account : List ℕ) : List LogLine → List AccountAttempt �
   then_halt : (sent : CodeTexts) → AreCodes account (heard (code_line sent) ∷ said halt ∷ []) []
   then_reply : (sent : CodeTexts) (moment : ℕ) (reply : Option Reply) {lines : List LogLine} {told : List AccountAttempt}
       → AreCodes account lines told
-      → AreCodes account (heard (code_line sent) ∷ said (replies moment reply) ∷ lines) (account_attempt_of account moment sent reply ∷ told)
+      → AreCodes account (heard (code_line sent) ∷ said (replies moment reply) ∷ lines)
+      (account_attempt_of account moment sent reply ∷ told)
 
 -- after the challenge: the client ends the session; or it sends its last message, and the verdict that is due refuses the login, or
 -- accepts it
 pub data FollowChallenge (accounts : Accounts) (mechanism account client_first server_first : List ℕ)
     : List LogLine → List AccountAttempt → Type 0 where
-  quits_after_challenge : {lines : List LogLine} → IsQuit lines → FollowChallenge accounts mechanism account client_first server_first lines []
+  quits_after_challenge : {lines : List LogLine} → IsQuit lines
+      → FollowChallenge accounts mechanism account client_first server_first lines []
   is_denied : (client_final : List ℕ) (why : Refusal)
       → IsVerdictDue accounts mechanism account client_first server_first client_final (refuse why)
       → FollowChallenge accounts mechanism account client_first server_first

@@ -1,5 +1,5 @@
 -- A line that may stand at a place instead of another is due there by the reason for the other, and the reason says so.
-use Rattle.std.proofs.Common.{◌≡◌, ◌⊎◌, inl, inr, ℕ, List, [], ◌∷◌, reverse, refl, sym, ◌∙◌, ap, subst}
+use Rattle.std.proofs.Common.{◌≡◌, inl, inr, ℕ, List, refl, sym, ◌∙◌, ap, subst}
 use Rattle.std.specs.declared.option.Option.{Option}
 use Rattle.otp_core.specs.declared.token.reply.Reply.{Reply}
 use Rattle.scram_text.specs.Messages.{ServerFinalParts}
@@ -8,16 +8,16 @@ use Rattle.scram_ends.specs.Login.{IsAuthentic}
 use Rattle.scram_ends.specs.Verdict.{accept, refuse}
 use Rattle.account_book.specs.AccountAttempt.{AccountAttempt}
 use Rattle.log_grammar.specs.Words.{offered_names}
-use Rattle.log_grammar.specs.Lines.{LogLine, header_one, header_two, said, heard, bad, gone, ended, mechs, cont, accepts, refuses, replies, halt, busy}
-use Rattle.log_grammar.specs.Lines.{abort, IsLogLine, IsLogLineWritable, IsReplyInRange}
-use Rattle.log_grammar.specs.Places.{Place, before_all, between, offered, asks_bare, waits_first, got_first, waits_final, got_final, waits_code}
-use Rattle.log_grammar.specs.Places.{got_code, leaving, ending, halted}
+use Rattle.log_grammar.specs.Lines.{LogLine, said, heard, mechs, cont, accepts, refuses, replies, halt, busy}
+use Rattle.log_grammar.specs.Lines.{abort, IsLogLine, IsLogLineWritable}
+use Rattle.log_grammar.specs.Places.{Place, asks_bare, got_first, got_final}
+use Rattle.log_grammar.specs.Places.{got_code, leaving, halted}
 use Rattle.log_grammar.specs.Demands.{Accounts, demands}
 use Rattle.log_grammar.specs.laws.FitAccounts.{AllCanBeChallenged}
 use Rattle.log_grammar.specs.state_machine.Steps.{IsTransition}
 use Rattle.log_grammar.specs.state_machine.DueClasses.{IsDueAt}
 use Rattle.log_grammar.specs.Why.{Why, is_cut, no_line, out_of_order, other_mechs, other_challenge, other_outcome, other_reply, accepted}
-use Rattle.log_grammar.specs.Why.{refused_with, IsReasonForAnswer, IsReasonForReply, IsReasonForLine, class_of, of_login_answers, of_replies}
+use Rattle.log_grammar.specs.Why.{refused_with, IsReasonForAnswer, IsReasonForReply, IsReasonForLine, class_of, of_login_answers}
 use Rattle.log_grammar.specs.Faults.{IsDueFor, offer_is_due, challenge_is_due, refusal_is_due, acceptance_is_due, reply_is_due}
 use Rattle.log_grammar.specs.laws.Reasons.{SaysWhatIsDue, NamesWhatIsDue}
 use Rattle.log_grammar.specs.laws.WholeLogs.{HasReplyInRange}
@@ -75,7 +75,8 @@ answer_is_due line due (other_outcome (refused_with message)) class named says =
 answer_is_due line due (other_reply moment reply) class named says = absurd (cc named)
 
 -- a line that says what is due by the reason for a reply is due instead of this reply
-reply_line_is_due : (accounts : Accounts) (place : Place) (told : List AccountAttempt) (moment : ℕ) (given : Option Reply) (due : LogLine) (why : Why)
+reply_line_is_due : (accounts : Accounts) (place : Place) (told : List AccountAttempt) (moment : ℕ) (given : Option Reply)
+    (due : LogLine) (why : Why)
     → IsReasonForReply accounts place told moment why → SaysWhatIsDue why due → IsDueFor (said (replies moment given)) due why
 reply_line_is_due accounts (got_code account sent) told moment given due why (wanted, is, same) says =
     subst (λ (w : Why). SaysWhatIsDue w due → IsDueFor (said (replies moment given)) due w) (sym same)
@@ -88,7 +89,8 @@ pub due_line_is_due : (accounts : Accounts) (place : Place) (told : List Account
     → IsReasonForLine accounts place told line why → SaysWhatIsDue why due → IsDueFor line due why
 due_line_is_due accounts place told (said (mechs names)) due why wrong says =
     subst (λ (w : Why). SaysWhatIsDue w due → IsDueFor (said (mechs names)) due w) (sym wrong)
-    (λ said_due. subst (λ (l : LogLine). IsDueFor (said (mechs names)) l other_mechs) (sym said_due) (offer_is_due names offered_names)) says
+    (λ said_due. subst (λ (l : LogLine). IsDueFor (said (mechs names)) l other_mechs) (sym said_due) (offer_is_due names offered_names))
+    says
 due_line_is_due accounts place told (said (cont message)) due why wrong says =
     answer_is_due (said (cont message)) due why refl (wrong_answer_has_class accounts place why wrong) says
 due_line_is_due accounts place told (said (accepts message)) due why wrong says =

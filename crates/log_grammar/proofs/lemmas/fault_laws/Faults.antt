@@ -1,11 +1,10 @@
 -- The line at fault, and the reason for it, are those that follow from what may stand.
-use Rattle.std.proofs.Common.{◌≡◌, ◌⊎◌, ◌↔◌, inl, inr, ℕ, ◌+◌, ◌≤◌, ◌<◌, List, [], ◌∷◌, ◌++◌, length, take, refl, sym, ◌∙◌, ap, subst, arith}
+use Rattle.std.proofs.Common.{◌≡◌, ◌⊎◌, inl, inr, ℕ, ◌+◌, ◌≤◌, ◌<◌, List, [], ◌∷◌, ◌++◌, length, take, refl, sym, ◌∙◌, ap, subst, arith}
 use Rattle.std.proofs.Common.{append-nil}
-use Rattle.std.specs.List.{AllByRecursion}
 use Rattle.std.proofs.lemmas.Bool.{cases_lt}
 use Rattle.std.proofs.Math.Seq.{take-append_seam, take-length}
 use Rattle.scram_text.specs.SplitLines.{LacksLf, ended_by_lf, IsSplit}
-use Rattle.scram_text.proofs.lemmas.SplitLines.{lines_up_to_lack_lf, whole_lines_are_split}
+use Rattle.scram_text.proofs.lemmas.SplitLines.{lines_up_to_lack_lf}
 use Rattle.log_grammar.specs.Demands.{Accounts}
 use Rattle.log_grammar.specs.laws.FitAccounts.{AllCanBeChallenged}
 use Rattle.log_grammar.specs.Why.{Why, is_cut, no_line}
@@ -17,7 +16,7 @@ use Rattle.log_grammar.specs.laws.WholeLogs.{HasReplyInRange, FaultLinesAreOfWho
 use Rattle.log_grammar.proofs.lemmas.ListEnds.{index_has_element, front_keeps_all, take-append_next}
 use Rattle.log_grammar.proofs.lemmas.kinds.AllVersions.{any_version_can_be_shortened}
 use Rattle.log_grammar.proofs.lemmas.kinds.AtFault.{end_is_fault_line, end_is_at_fault, text_is_fault_line, text_is_at_fault}
-use Rattle.log_grammar.proofs.lemmas.kinds.FaultLines.{FaultText, reason_shows_fault_text, FaultEnd, reason_shows_fault_end}
+use Rattle.log_grammar.proofs.lemmas.kinds.FaultLines.{reason_shows_fault_text, reason_shows_fault_end}
 use Rattle.log_grammar.proofs.lemmas.kinds.OneAnswer.{fault_lines_begin_no_clean_log}
 use Rattle.log_grammar.proofs.lemmas.whole_sessions.BothVersions.{clean_log_is_whole, whole_log_is_clean, what_begins_clean_begins_whole}
 use Rattle.log_grammar.proofs.lemmas.whole_sessions.BothVersions.{what_begins_whole_begins_clean}
@@ -25,7 +24,8 @@ use Rattle.log_grammar.proofs.lemmas.fault_laws.Reasons.{reason_is_shown, shown_
 use Rattle.log_grammar.proofs.lemmas.fault_laws.WhatStands.{standing_lines_begin, beginning_lines_stand}
 
 -- the longest line that may follow some lines is that of their version
-longest_is_of_version : (accounts : Accounts) (before : List (List ℕ)) → longest_after before ≡ (any_version accounts).max_line_len_after before
+longest_is_of_version : (accounts : Accounts) (before : List (List ℕ))
+    → longest_after before ≡ (any_version accounts).max_line_len_after before
 longest_is_of_version accounts [] = refl
 longest_is_of_version accounts (first ∷ more) = refl
 

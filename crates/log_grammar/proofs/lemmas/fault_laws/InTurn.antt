@@ -1,22 +1,21 @@
 -- In a log of version 1 the reason for a fault is what may stand in the place of the line.
-use Rattle.std.proofs.Common.{◌≡◌, ◌⊎◌, inl, inr, ℕ, List, [], ◌∷◌, ◌++◌, refl, sym, subst}
+use Rattle.std.proofs.Common.{◌≡◌, inl, inr, ℕ, List, [], ◌∷◌, ◌++◌, refl, sym, subst}
 use Rattle.std.specs.List.{AllByRecursion, AllZip}
 use Rattle.std.proofs.lemmas.Slice.Zip.{all_zipped_more}
 use Rattle.std.specs.declared.option.Option.{Option}
 use Rattle.std.specs.declared.option.Option.TheVariants.{None, Some}
-use Rattle.scram_text.specs.SplitLines.{LacksLf, ended_by_lf}
+use Rattle.scram_text.specs.SplitLines.{LacksLf}
 use Rattle.scram_text.proofs.lemmas.ListEnds.{appended_lists_keep_all}
 use Rattle.account_book.specs.AccountAttempt.{AccountAttempt}
-use Rattle.log_grammar.specs.Lines.{LogLine, header_one, header_two, log_line_text, IsLogLine, IsLogLineWritable}
+use Rattle.log_grammar.specs.Lines.{LogLine, header_one, log_line_text, IsLogLine, IsLogLineWritable}
 use Rattle.log_grammar.specs.Places.{Place}
 use Rattle.log_grammar.specs.Demands.{Accounts, demands}
 use Rattle.log_grammar.specs.laws.FitAccounts.{AllCanBeChallenged}
 use Rattle.log_grammar.specs.state_machine.Steps.{told_at}
 use Rattle.log_grammar.specs.Begins.{Begins}
-use Rattle.log_grammar.specs.Why.{Why, no_line, class_of, IsClassDue, IsReasonForLine}
+use Rattle.log_grammar.specs.Why.{Why, class_of, IsClassDue, IsReasonForLine}
 use Rattle.log_grammar.specs.VersionOne.{MayBeginVersionOne, IsReasonForText}
-use Rattle.log_grammar.specs.NumberedLines.{IsNoFirstLine}
-use Rattle.log_grammar.specs.Faults.{IsLineAfter, MayStand, IsDueFor, IsReason, for_no_line, for_order, for_due}
+use Rattle.log_grammar.specs.Faults.{IsLineAfter, MayStand, IsReason, for_no_line, for_order, for_due}
 use Rattle.log_grammar.specs.laws.WholeLogs.{HasReplyInRange}
 use Rattle.log_grammar.proofs.lemmas.lines.LackLf.{lines_lack_lf}
 use Rattle.log_grammar.proofs.lemmas.demands.StillChallenged.{challenge_meets_demand}
@@ -28,7 +27,7 @@ use Rattle.log_grammar.proofs.lemmas.reason_laws.NumberedMended.{wrong_line_has_
 use Rattle.log_grammar.proofs.lemmas.state_machine.DueClasses.{classes_follow_the_place}
 use Rattle.log_grammar.proofs.lemmas.state_machine.LogSteps.{log_goes_on}
 use Rattle.log_grammar.proofs.lemmas.state_machine.PlaceBefore.{logs_have_one_reading}
-use Rattle.log_grammar.proofs.lemmas.state_machine.Standings.{Follows, Standing, line_has_standing}
+use Rattle.log_grammar.proofs.lemmas.state_machine.Standings.{Follows, line_has_standing}
 use Rattle.log_grammar.proofs.lemmas.fault_laws.DueLines.{due_has_class_of_line, due_reply_is_in_range, due_line_is_due, due_line_shows_reason}
 use Rattle.log_grammar.proofs.lemmas.fault_laws.DueLines.{named_class_is_named_due, some_line_of_class_follows}
 use Rattle.log_grammar.proofs.lemmas.fault_laws.WhatStands.{standing_lines_begin, beginning_lines_stand}
@@ -46,7 +45,8 @@ module _ (accounts : Accounts) (fit : AllCanBeChallenged accounts) (texts : List
   line_stands_after text line is = (is, λ two. absurd (first_lines_differ two))
 
   -- a line that may stand after lines of version 1 may stand at their place
-  standing_line_follows : (line : LogLine) → MayStand accounts (log_line_text header_one ∷ texts) None line → Follows accounts place told line
+  standing_line_follows : (line : LogLine) → MayStand accounts (log_line_text header_one ∷ texts) None line
+      → Follows accounts place told line
   standing_line_follows line (text, is, more) =
       let lacks = appended_lists_keep_all LacksLf (log_line_text header_one ∷ texts) (text ∷ []) lack
       (lines_lack_lf text line is.0, tt) in

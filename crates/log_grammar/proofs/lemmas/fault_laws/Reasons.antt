@@ -1,23 +1,18 @@
 -- The reason for a fault in a log of either version is what may stand in the place of the line.
-use Rattle.std.proofs.Common.{◌≡◌, ◌⊎◌, inl, inr, ℕ, List, [], ◌∷◌, ◌++◌, refl, sym, subst}
-use Rattle.std.specs.List.{AllByRecursion, AllZip}
+use Rattle.std.proofs.Common.{inl, inr, ℕ, List, [], ◌∷◌, ◌++◌, refl, sym, subst}
+use Rattle.std.specs.List.{AllByRecursion}
 use Rattle.scram_text.specs.SplitLines.{LacksLf}
-use Rattle.account_book.specs.AccountAttempt.{AccountAttempt}
-use Rattle.log_grammar.specs.Lines.{LogLine, header_one, header_two, log_line_text, IsLogLine}
-use Rattle.log_grammar.specs.Places.{Place}
-use Rattle.log_grammar.specs.Demands.{Accounts, demands}
+use Rattle.log_grammar.specs.Lines.{LogLine, header_one, header_two, log_line_text}
+use Rattle.log_grammar.specs.Demands.{Accounts}
 use Rattle.log_grammar.specs.laws.FitAccounts.{AllCanBeChallenged}
-use Rattle.log_grammar.specs.Begins.{Begins}
 use Rattle.log_grammar.specs.Why.{Why}
 use Rattle.log_grammar.specs.Numbered.{Numbered}
-use Rattle.log_grammar.specs.NumberedLines.{IsNumberedLine}
 use Rattle.log_grammar.specs.VersionOne.{MayBeginVersionOne, IsReasonInVersionOne, IsReasonForText}
 use Rattle.log_grammar.specs.VersionTwo.{MayBeginVersionTwo, IsReasonInVersionTwo, IsReasonAfterFirst}
 use Rattle.log_grammar.specs.Versions.{max_open_sessions, any_version}
 use Rattle.log_grammar.specs.Faults.{IsReason, for_no_line, for_order, for_due}
 use Rattle.log_grammar.specs.laws.WholeLogs.{HasReplyInRange}
 use Rattle.log_grammar.proofs.lemmas.kinds.AllVersions.{version_one_begins_with_header, header_shows_version_one, header_two_shows_version_two}
-use Rattle.log_grammar.proofs.lemmas.kinds.FirstLinesDiffer.{first_lines_differ}
 use Rattle.log_grammar.proofs.lemmas.kinds.OneWhy.{one_list_of_lines}
 use Rattle.log_grammar.proofs.lemmas.kinds.VersionOne.{version_one_is_headed}
 use Rattle.log_grammar.proofs.lemmas.kinds.VersionTwo.{version_two_is_headed, one_list_of_numbered_lines}

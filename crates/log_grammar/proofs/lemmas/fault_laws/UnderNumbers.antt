@@ -1,10 +1,10 @@
 -- In a log of version 2 the reason for a fault is what may stand, under its number, in the place of the line.
-use Rattle.std.proofs.Common.{◌≡◌, ◌⊎◌, inl, inr, ℕ, List, [], ◌∷◌, ◌++◌, refl, sym, subst}
+use Rattle.std.proofs.Common.{◌≡◌, inl, inr, ℕ, List, [], ◌∷◌, ◌++◌, refl, sym, subst}
 use Rattle.std.specs.List.{AllByRecursion, AllZip}
 use Rattle.std.proofs.lemmas.Slice.Zip.{all_zipped_more}
 use Rattle.std.specs.declared.option.Option.{Option}
 use Rattle.std.specs.declared.option.Option.TheVariants.{None, Some}
-use Rattle.scram_text.specs.SplitLines.{LacksLf, ended_by_lf}
+use Rattle.scram_text.specs.SplitLines.{LacksLf}
 use Rattle.scram_text.proofs.lemmas.ListEnds.{appended_lists_keep_all}
 use Rattle.account_book.specs.AccountAttempt.{AccountAttempt}
 use Rattle.log_grammar.specs.Lines.{LogLine, header_one, header_two, said, heard, busy, abort, log_line_text, IsLogLine}
@@ -12,12 +12,12 @@ use Rattle.log_grammar.specs.Places.{Place}
 use Rattle.log_grammar.specs.Demands.{Accounts, demands}
 use Rattle.log_grammar.specs.laws.FitAccounts.{AllCanBeChallenged}
 use Rattle.log_grammar.specs.state_machine.Steps.{told_at}
-use Rattle.log_grammar.specs.state_machine.NumberedSteps.{put, IsNumberedTransition}
+use Rattle.log_grammar.specs.state_machine.NumberedSteps.{put}
 use Rattle.log_grammar.specs.state_machine.DueClasses.{IsDueAt}
 use Rattle.log_grammar.specs.state_machine.NumberedDueClasses.{ClassMayBeNumbered, ClassMayFollow, IsNumberDueAt}
 use Rattle.log_grammar.specs.Why.{Why, out_of_order, class_of, of_header_one, of_header_two, IsReasonForLine}
 use Rattle.log_grammar.specs.Numbered.{Numbered, numbered, IsNumberedLogUpTo}
-use Rattle.log_grammar.specs.NumberedLines.{IsSessionNumber, IsNoFirstLine, numbered_text, IsNumberedLine, IsNumberedLineWritable}
+use Rattle.log_grammar.specs.NumberedLines.{IsNoFirstLine, numbered_text, IsNumberedLine, IsNumberedLineWritable}
 use Rattle.log_grammar.specs.NumberedClasses.{IsNumberClassDue}
 use Rattle.log_grammar.specs.Versions.{max_open_sessions}
 use Rattle.log_grammar.specs.VersionTwo.{MayBeginVersionTwo, IsFirstText, IsNumberedReasonAfter, IsReasonAfterFirst}

@@ -1,5 +1,5 @@
 -- Whole lines stand, so that a log may begin with them, if and only if they begin a log of whole sessions.
-use Rattle.std.proofs.Common.{◌≡◌, ℕ, List, []}
+use Rattle.std.proofs.Common.{ℕ, List}
 use Rattle.std.specs.List.{AllByRecursion}
 use Rattle.scram_text.specs.SplitLines.{LacksLf, ended_by_lf}
 use Rattle.scram_text.proofs.lemmas.SplitLines.{whole_lines_are_split}

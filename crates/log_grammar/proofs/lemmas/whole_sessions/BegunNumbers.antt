@@ -1,12 +1,12 @@
 -- The lines of a number that has not ended begin those of a number, and the first lines of a number are those of some visit.
-use Rattle.std.proofs.Common.{◌≡◌, ◌⊎◌, inl, inr, ℕ, true, false, List, [], ◌∷◌, ◌++◌, length, take, refl, sym, ◌∙◌, ap, subst, arith}
+use Rattle.std.proofs.Common.{◌≡◌, inl, inr, ℕ, true, false, List, [], ◌∷◌, ◌++◌, length, take, refl, sym, ◌∙◌, ap, subst, arith}
 use Rattle.std.proofs.Common.{append_assoc, append-nil}
 use Rattle.std.specs.declared.option.Option.{Option}
 use Rattle.std.specs.declared.option.Option.TheVariants.{None, Some}
 use Rattle.std.proofs.Math.Seq.{take-append_seam}
 use Rattle.account_book.specs.AccountAttempt.{AccountAttempt}
 use Rattle.log_grammar.specs.Lines.{LogLine, said, halt}
-use Rattle.log_grammar.specs.Places.{Place, MayEnd, before_all, between, got_code, halted}
+use Rattle.log_grammar.specs.Places.{Place, MayEnd, before_all, between, halted}
 use Rattle.log_grammar.specs.Demands.{Accounts, Demands, demands}
 use Rattle.log_grammar.specs.laws.FitAccounts.{AllCanBeChallenged}
 use Rattle.log_grammar.specs.state_machine.Steps.{IsTransition, told_at}
@@ -124,7 +124,8 @@ module _ (accounts : Accounts) where
       ]
 
   -- a halt ends a visit that waits for the reply to a code
-  halt_ends_visit : (o : Option Visit) → VisitMeets (demands accounts) o → IsTransition (demands accounts) (visit_place o) (said halt) halted
+  halt_ends_visit : (o : Option Visit) → VisitMeets (demands accounts) o
+      → IsTransition (demands accounts) (visit_place o) (said halt) halted
       → told_at (visit_place o) (said halt) ≡ [] → (visit_place o ≡ between → ⊥) → IsEndedBy o (said halt ∷ [])
   halt_ends_visit o meets goes quiet opens =
       elim (visit_goes_on (demands accounts) o (said halt) halted meets (inl goes)) [

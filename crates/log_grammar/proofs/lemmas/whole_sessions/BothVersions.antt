@@ -1,9 +1,8 @@
 -- A log of either version is clean if and only if it is made of whole sessions, and its fronts are what begins such a log.
-use Rattle.std.proofs.Common.{◌≡◌, ◌⊎◌, ◌↔◌, inl, inr, ℕ, List, [], ◌++◌}
-use Rattle.scram_text.specs.SplitLines.{IsSplit}
+use Rattle.std.proofs.Common.{inl, inr, ℕ, List, ◌++◌}
 use Rattle.log_grammar.specs.Demands.{Accounts}
 use Rattle.log_grammar.specs.laws.FitAccounts.{AllCanBeChallenged}
-use Rattle.log_grammar.specs.Versions.{max_open_sessions, any_version, IsClean, IsLogFront}
+use Rattle.log_grammar.specs.Versions.{max_open_sessions, any_version, IsClean}
 use Rattle.log_grammar.specs.CleanLogs.{IsCleanLog, BeginsCleanLog}
 use Rattle.log_grammar.specs.laws.LogLaws.{BeginsClean}
 use Rattle.log_grammar.specs.laws.WholeLogs.{CleanLogsAreOfWholeSessions, FrontsAreWhatBeginsWholeLogs}

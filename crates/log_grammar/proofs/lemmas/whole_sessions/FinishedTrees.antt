@@ -1,11 +1,11 @@
 -- A session's tree that meets the demands and has ended has the lines of a whole session.
-use Rattle.std.proofs.Common.{◌≡◌, ℕ, Bool, true, false, List, [], ◌∷◌, refl, sym, subst}
+use Rattle.std.proofs.Common.{◌≡◌, ℕ, true, false, List, [], ◌∷◌, refl, sym, subst}
 use Rattle.account_book.specs.AccountAttempt.{AccountAttempt}
-use Rattle.log_grammar.specs.Lines.{LogLine, said, heard, bad, ended, mechs, cont, refuses, auth, resp, abort}
+use Rattle.log_grammar.specs.Lines.{said, heard, bad, ended, mechs, cont, refuses, auth, resp, abort}
 use Rattle.log_grammar.specs.Places.{MayEnd}
 use Rattle.log_grammar.specs.Demands.{Accounts, demands}
-use Rattle.log_grammar.specs.Sessions.{Quit, quitting, AfterOk, after_ok, AfterFinal, after_final, AfterChallenge, after_challenge, AfterFirst}
-use Rattle.log_grammar.specs.Sessions.{after_first, AfterEmpty, after_empty, AfterAuth, after_auth, AfterMechs, after_mechs, RecordedSession}
+use Rattle.log_grammar.specs.Sessions.{Quit, quitting, AfterOk, after_ok, AfterChallenge, after_challenge, AfterFirst}
+use Rattle.log_grammar.specs.Sessions.{after_first, AfterEmpty, after_empty, AfterMechs, after_mechs, RecordedSession}
 use Rattle.log_grammar.specs.Sessions.{session_lines, session_place, session_told, SessionMeets, no_farewell, farewell, goes_away, aborts, sends_bad}
 use Rattle.log_grammar.specs.Sessions.{no_code, quits_codes, unreplied, replied, halted_at, no_verdict, denied, granted, no_final, quits_final}
 use Rattle.log_grammar.specs.Sessions.{sends_final, no_answer, refused, challenged, no_first, quits_first, sends_first, no_invitation, unoffered}

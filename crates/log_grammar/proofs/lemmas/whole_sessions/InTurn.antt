@@ -3,7 +3,7 @@ use Rattle.std.proofs.Common.{◌≡◌, ◌↔◌, inl, inr, ℕ, List, [], ◌
 use Rattle.std.specs.Prelude.{flat_map}
 use Rattle.std.specs.List.{AllByRecursion}
 use Rattle.account_book.specs.AccountAttempt.{AccountAttempt}
-use Rattle.log_grammar.specs.Lines.{LogLine, header_one, ended, log_bytes, IsLogLineWritable}
+use Rattle.log_grammar.specs.Lines.{LogLine, header_one, log_bytes, IsLogLineWritable}
 use Rattle.log_grammar.specs.Places.{MayEnd}
 use Rattle.log_grammar.specs.Demands.{Accounts, demands}
 use Rattle.log_grammar.specs.Sessions.{RecordedSession, session_lines, session_place, session_told, SessionMeets}

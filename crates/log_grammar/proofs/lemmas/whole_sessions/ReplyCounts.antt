@@ -9,7 +9,7 @@ use Rattle.std.proofs.lemmas.List.Sums.{sum_by-append}
 use Rattle.account_book.specs.AccountAttempt.{AccountAttempt}
 use Rattle.log_grammar.specs.Lines.{LogLine, said, replies}
 use Rattle.log_grammar.specs.Places.{Place}
-use Rattle.log_grammar.specs.Sessions.{after_mechs, session}
+use Rattle.log_grammar.specs.Sessions.{session}
 use Rattle.log_grammar.specs.Numbered.{Numbered, of_number, Visit, let_in, turned_away, visit_lines, visit_told, is_reply, reply_numbers}
 use Rattle.log_grammar.proofs.lemmas.session_laws.LaterLines.{IsInnerLine, HoldsFromTheLast, later_lines_hold}
 

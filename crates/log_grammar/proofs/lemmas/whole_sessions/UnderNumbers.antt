@@ -1,5 +1,5 @@
 -- A log of version 2 is clean if and only if the lines of each number are those of a whole session, or may be cut short by a halt.
-use Rattle.std.proofs.Common.{◌≡◌, ◌⊎◌, ◌↔◌, inl, inr, ℕ, true, List, [], ◌∷◌, ◌++◌, length, refl, sym, ◌∙◌, ap, subst, append-nil}
+use Rattle.std.proofs.Common.{◌≡◌, ◌⊎◌, ◌↔◌, inl, inr, ℕ, true, List, [], ◌∷◌, ◌++◌, length, refl, sym, ◌∙◌, ap, subst}
 use Rattle.std.specs.Prelude.{map, count_by}
 use Rattle.std.specs.declared.option.Option.{Option}
 use Rattle.std.specs.declared.option.Option.TheVariants.{None, Some}
@@ -7,9 +7,9 @@ use Rattle.std.proofs.lemmas.Bool.Decides.{eqb_tells}
 use Rattle.std.proofs.lemmas.List.{same_from_push}
 use Rattle.scram_text.proofs.lemmas.ListEnds.{nonempty_has_last, same_head_and_tail, empty_has_no_last}
 use Rattle.account_book.specs.AccountAttempt.{AccountAttempt}
-use Rattle.log_grammar.specs.Lines.{LogLine, said, ended, busy, halt}
+use Rattle.log_grammar.specs.Lines.{LogLine, said, halt}
 use Rattle.log_grammar.specs.laws.LastLines.{EndsWith}
-use Rattle.log_grammar.specs.Places.{MayEnd, between, halted}
+use Rattle.log_grammar.specs.Places.{MayEnd}
 use Rattle.log_grammar.specs.Demands.{Accounts, demands}
 use Rattle.log_grammar.specs.laws.FitAccounts.{AllCanBeChallenged}
 use Rattle.log_grammar.specs.laws.NumberedBySessions.{IsClosedVisit, IsHaltedVisit, IsNumberedLogOf}
@@ -24,7 +24,7 @@ use Rattle.log_grammar.proofs.lemmas.many_sessions.HaltAndBusy.{line_is_halt_or_
 use Rattle.log_grammar.proofs.lemmas.many_sessions.LinesOfNumber.{of_number-append, of_number-own_items, equal_parts_are_same_numbered}
 use Rattle.log_grammar.proofs.lemmas.many_sessions.OneReading.{number_challenge_meets_demand}
 use Rattle.log_grammar.proofs.lemmas.session_laws.OfSessions.{ending_place_is_between_or_halted}
-use Rattle.log_grammar.proofs.lemmas.session_laws.NumberedOfSessions.{closed_visit_is_between, visit_between_is_closed, halted_visit_is_at_halt}
+use Rattle.log_grammar.proofs.lemmas.session_laws.NumberedOfSessions.{closed_visit_is_between, visit_between_is_closed}
 use Rattle.log_grammar.proofs.lemmas.session_laws.NumberedOfSessions.{visit_at_halt_is_halted, log_of_sessions_is_spelled}
 use Rattle.log_grammar.proofs.lemmas.session_laws.NumberedOfSessions.{clean_numbered_logs_are_those_of_sessions}
 use Rattle.log_grammar.proofs.lemmas.whole_sessions.BegunNumbers.{equal_lists_begin_alike, first_lines_have_visit, ended_visit_is_whole}
