@@ -2,7 +2,7 @@
 use Rattle.std.proofs.Common.{inl, inr, ℕ, List, ◌++◌}
 use Rattle.log_grammar.specs.Demands.{Accounts}
 use Rattle.log_grammar.specs.laws.FitAccounts.{AllCanBeChallenged}
-use Rattle.log_grammar.specs.Versions.{max_open_sessions, any_version, IsClean}
+use Rattle.log_grammar.specs.Versions.{any_version, IsClean}
 use Rattle.log_grammar.specs.CleanLogs.{IsCleanLog, BeginsCleanLog}
 use Rattle.log_grammar.specs.laws.LogLaws.{BeginsClean}
 use Rattle.log_grammar.specs.laws.WholeLogs.{CleanLogsAreOfWholeSessions, FrontsAreWhatBeginsWholeLogs}
@@ -16,14 +16,14 @@ module _ (accounts : Accounts) (fit : AllCanBeChallenged accounts) where
   pub clean_log_is_whole : (bytes : List ℕ) → IsClean accounts bytes → IsCleanLog accounts bytes
   clean_log_is_whole bytes (texts, cut, inl clean) = inl ((clean_iff_in_turn accounts bytes).0 (texts, cut, clean))
   clean_log_is_whole bytes (texts, cut, inr clean) =
-      inr ((clean_iff_numbered accounts fit max_open_sessions bytes).0 (texts, cut, clean))
+      inr ((clean_iff_numbered accounts fit bytes).0 (texts, cut, clean))
 
   -- a log that is made of whole sessions is clean
   pub whole_log_is_clean : (bytes : List ℕ) → IsCleanLog accounts bytes → IsClean accounts bytes
   whole_log_is_clean bytes (inl whole) =
       let (texts, cut, clean) = (clean_iff_in_turn accounts bytes).1 whole in (texts, cut, inl clean)
   whole_log_is_clean bytes (inr whole) =
-      let (texts, cut, clean) = (clean_iff_numbered accounts fit max_open_sessions bytes).1 whole in (texts, cut, inr clean)
+      let (texts, cut, clean) = (clean_iff_numbered accounts fit bytes).1 whole in (texts, cut, inr clean)
 
   -- what begins a clean log begins one that is made of whole sessions
   pub what_begins_clean_begins_whole : (bytes : List ℕ) → BeginsClean accounts bytes → BeginsCleanLog accounts bytes

@@ -1,5 +1,5 @@
 -- A log of version 2 is clean if and only if the lines of each number are those of a whole session, or may be cut short by a halt.
-use Rattle.std.proofs.Common.{◌≡◌, ◌⊎◌, ◌↔◌, inl, inr, ℕ, true, List, [], ◌∷◌, ◌++◌, length, refl, sym, ◌∙◌, ap, subst}
+use Rattle.std.proofs.Common.{◌≡◌, ◌⊎◌, ◌↔◌, inl, inr, ℕ, true, List, [], ◌∷◌, ◌++◌, length, refl, sym, ◌∙◌, ap, subst, arith}
 use Rattle.std.specs.Prelude.{map, count_by}
 use Rattle.std.specs.declared.option.Option.{Option}
 use Rattle.std.specs.declared.option.Option.TheVariants.{None, Some}
@@ -7,7 +7,7 @@ use Rattle.std.proofs.lemmas.Bool.Decides.{eqb_tells}
 use Rattle.std.proofs.lemmas.List.{same_from_push}
 use Rattle.scram_text.proofs.lemmas.ListEnds.{nonempty_has_last, same_head_and_tail, empty_has_no_last}
 use Rattle.account_book.specs.AccountAttempt.{AccountAttempt}
-use Rattle.log_grammar.specs.Lines.{LogLine, said, halt}
+use Rattle.log_grammar.specs.Lines.{LogLine, said, heard, mechs, busy, halt, abort}
 use Rattle.log_grammar.specs.laws.LastLines.{EndsWith}
 use Rattle.log_grammar.specs.Places.{MayEnd}
 use Rattle.log_grammar.specs.Demands.{Accounts, demands}
@@ -15,9 +15,10 @@ use Rattle.log_grammar.specs.laws.FitAccounts.{AllCanBeChallenged}
 use Rattle.log_grammar.specs.laws.NumberedBySessions.{IsClosedVisit, IsHaltedVisit, IsNumberedLogOf}
 use Rattle.log_grammar.specs.LogKinds.{IsCleanOf}
 use Rattle.log_grammar.specs.VersionTwo.{version_two}
+use Rattle.log_grammar.specs.Versions.{max_open_sessions}
 use Rattle.log_grammar.specs.Numbered.{Numbered, numbered, of_number, Visit, let_in, turned_away, visit_lines, visit_told, visit_place, VisitMeets}
-use Rattle.log_grammar.specs.Numbered.{is_reply, MayFollow}
-use Rattle.log_grammar.specs.CleanLogs.{AreOfNumber, not_given, is_let_in, is_turned_away, BeginNumber, EndsInHalt, IsCleanNumbered}
+use Rattle.log_grammar.specs.Numbered.{is_reply, MayBeNumbered, MayFollow}
+use Rattle.log_grammar.specs.CleanLogs.{AreOfNumber, not_given, is_let_in, is_turned_away, BeginNumber, EndsInHalt, HasRoom, IsCleanNumbered}
 use Rattle.log_grammar.proofs.lemmas.ListEnds.{empty_has_no_element}
 use Rattle.log_grammar.proofs.lemmas.completions.OpenSessions.{no_number_is_before_all}
 use Rattle.log_grammar.proofs.lemmas.many_sessions.HaltAndBusy.{line_is_halt_or_busy_or_followed}
@@ -31,6 +32,15 @@ use Rattle.log_grammar.proofs.lemmas.whole_sessions.BegunNumbers.{equal_lists_be
 use Rattle.log_grammar.proofs.lemmas.whole_sessions.BegunNumbers.{visit_begins_number}
 use Rattle.log_grammar.proofs.lemmas.whole_sessions.ReplyCounts.{visit_replies_are_counted, number_has_as_many}
 use Rattle.log_grammar.proofs.lemmas.whole_sessions.WholeTrees.{whole_session_has_tree}
+
+-- there is room for a line of a number if and only if the number may have the line
+room_iff_may_be_numbered : (before : List (Numbered LogLine)) (n : ℕ) (line : LogLine)
+    → HasRoom before n line ↔ MayBeNumbered max_open_sessions before n line
+room_iff_may_be_numbered before n (said (mechs names)) =
+    (λ room. (room.0, omega (arith, room.1)), λ room. (room.0, omega (arith, room.1)))
+room_iff_may_be_numbered before n (said busy) = (λ room. (room.0, omega (arith, room.1)), λ room. (room.0, omega (arith, room.1)))
+room_iff_may_be_numbered before n (heard abort) = (λ room. tt, λ room. tt)
+room_iff_may_be_numbered before n line = (λ room. tt, λ room. tt)
 
 -- a line of a number stands in the log
 line_of_number_stands : (n : ℕ) (log : List (Numbered LogLine)) (earlier : List LogLine) (line : LogLine) (later : List LogLine)
@@ -136,7 +146,7 @@ module _ (accounts : Accounts) where
         over = inr halts;
       }
 
-  module _ (limit : ℕ) (bytes : List ℕ) (c : IsCleanNumbered limit accounts bytes) where
+  module _ (bytes : List ℕ) (c : IsCleanNumbered accounts bytes) where
     -- each number has a visit
     number_has_visit : (n : ℕ) → HasVisit accounts c.lines (of_number n c.lines) (of_number n c.told)
     number_has_visit n = elim (c.each n) [
@@ -168,7 +178,7 @@ module _ (accounts : Accounts) where
         (n, visit_that_ends_is_halted v.visit (of_number n before, sym v.are ∙ own))
 
     -- a log of version 2 that is made of whole sessions has their trees
-    numbered_log_has_trees : IsNumberedLogOf limit accounts bytes c.lines
+    numbered_log_has_trees : IsNumberedLogOf max_open_sessions accounts bytes c.lines
     numbered_log_has_trees = record {
       spelled = c.spelled;
       written = c.written;
@@ -177,7 +187,7 @@ module _ (accounts : Accounts) where
       sessions = record {
         lines = λ n. (number_has_visit n).are;
         good = λ n. (number_has_visit n).good;
-        room = c.room;
+        room = λ before x more e. (room_iff_may_be_numbered before x.number x.value).0 (c.room before x more e);
         next = c.next;
         told_of_each = λ n. (number_has_visit n).told_are;
         order = c.order;
@@ -217,25 +227,25 @@ module _ (accounts : Accounts) where
       ]
 
   -- a clean log of version 2 is made of whole sessions
-  clean_log_is_numbered : AllCanBeChallenged accounts → (limit : ℕ) (bytes : List ℕ) (log : List (Numbered LogLine))
-      → IsNumberedLogOf limit accounts bytes log → IsCleanNumbered limit accounts bytes
-  clean_log_is_numbered fit limit bytes log l = record {
+  clean_log_is_numbered : AllCanBeChallenged accounts → (bytes : List ℕ) (log : List (Numbered LogLine))
+      → IsNumberedLogOf max_open_sessions accounts bytes log → IsCleanNumbered accounts bytes
+  clean_log_is_numbered fit bytes log l = record {
     lines = log;
     spelled = l.spelled;
     written = l.written;
     told = l.numbered_told;
     order = l.sessions.order;
-    each = number_is_whole_or_cut fit limit bytes log l;
-    room = l.sessions.room;
+    each = number_is_whole_or_cut fit max_open_sessions bytes log l;
+    room = λ before x more e. (room_iff_may_be_numbered before x.number x.value).1 (l.sessions.room before x more e);
     next = l.sessions.next;
     histories = l.histories;
   }
 
   -- if a challenge can be written for each name, a log of version 2 is clean if and only if it is made of whole sessions
-  pub clean_iff_numbered : AllCanBeChallenged accounts → (limit : ℕ) (bytes : List ℕ)
-      → IsCleanOf (version_two limit accounts) bytes ↔ IsCleanNumbered limit accounts bytes
-  clean_iff_numbered fit limit bytes =
-      let law = clean_numbered_logs_are_those_of_sessions limit accounts bytes in (
-        λ clean. let l = law.0 clean in clean_log_is_numbered fit limit bytes l.0 l.1,
-        λ c. law.1 (c.lines, numbered_log_has_trees limit bytes c),
+  pub clean_iff_numbered : AllCanBeChallenged accounts → (bytes : List ℕ)
+      → IsCleanOf (version_two max_open_sessions accounts) bytes ↔ IsCleanNumbered accounts bytes
+  clean_iff_numbered fit bytes =
+      let law = clean_numbered_logs_are_those_of_sessions max_open_sessions accounts bytes in (
+        λ clean. let l = law.0 clean in clean_log_is_numbered fit bytes l.0 l.1,
+        λ c. law.1 (c.lines, numbered_log_has_trees bytes c),
       )
