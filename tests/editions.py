@@ -101,8 +101,8 @@ def definitions_in(file: Path) -> dict[str, Declaration]:
             module = lines.pop(0)
         if head := next(filter(None, map(HEAD.match, lines)), None):
             one = Declaration(file, "\n".join(lines), module if lines[0].startswith(" ") else "", imports)
-            cases = re.findall(r"^\s+(\w+) :", one.text, re.MULTILINE) if head[1] == "data" else []
-            found |= dict.fromkeys([head[2], *cases], one)
+            cases = re.findall(r"^\s+((?:\w+ )+):", one.text, re.MULTILINE) if head[1] == "data" else []
+            found |= dict.fromkeys([head[2], *" ".join(cases).split()], one)
     return found
 
 

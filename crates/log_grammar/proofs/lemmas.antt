@@ -6,11 +6,12 @@
 -- many_sessions: logs of version 2, line by line. completions: each front begins a clean log. kinds: each log has one answer.
 -- session_laws: the sessions of a clean log. upgraded_logs: a log of version 1, with numbers. outcome_laws: where the server's lines stand.
 -- login_laws: the logins of a log. reply_laws: the counters that passed. reason_laws: what may replace the line at fault.
--- small_logs: logs of a few lines.
+-- small_logs: logs of a few lines. whole_sessions: clean logs in terms of whole sessions. fault_laws: faults in these terms.
 pub mod ListEnds
 pub mod DecidedFacts
 pub mod completions
 pub mod demands
+pub mod fault_laws
 pub mod session_laws
 pub mod kinds
 pub mod lines
@@ -22,3 +23,4 @@ pub mod reply_laws
 pub mod small_logs
 pub mod state_machine
 pub mod upgraded_logs
+pub mod whole_sessions

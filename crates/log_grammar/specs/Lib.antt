@@ -1,17 +1,22 @@
--- What a log is. A reader of the audit's promise has to believe the files of this folder except `Upgrades`. The laws in `laws` are
--- proved from them, and so is that `state_machine` has the same grammar.
+-- What a log is. A reader of the audit's promise has to believe `CleanLogs` and `Faults`, and of the other files of this folder what they
+-- name (docs/editions has just that). `Places` to `Versions` have the grammar once more, in which a log may break off after any line, and
+-- `state_machine` has it line by line; the laws in `laws` say that these agree.
 pub mod Words
 pub mod Payload
 pub mod Lines
-pub mod Places
 pub mod Demands
-pub mod Sessions
-pub mod Begins
-pub mod Why
-pub mod LogKinds
-pub mod VersionOne
+pub mod Histories
+pub mod WholeSessions
 pub mod Numbered
 pub mod NumberedLines
+pub mod CleanLogs
+pub mod Why
+pub mod Faults
+pub mod Places
+pub mod Sessions
+pub mod Begins
+pub mod LogKinds
+pub mod VersionOne
 pub mod NumberedClasses
 pub mod VersionTwo
 pub mod Versions

@@ -3,7 +3,6 @@
 pub mod FitAccounts
 pub mod LastLines
 pub mod LineLaws
-pub mod Histories
 pub mod KindLaws
 pub mod LogLaws
 pub mod Completions
@@ -21,3 +20,4 @@ pub mod NumberedReasons
 pub mod NumberedReplies
 pub mod NumberedLogins
 pub mod UpgradedLogs
+pub mod WholeLogs

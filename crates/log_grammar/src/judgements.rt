@@ -6,7 +6,7 @@ ghost use Rattle.log_grammar.specs.Payload.{IsMessage};
 ghost use Rattle.log_grammar.specs.Lines.{Line, LogLine, client_text, resp, IsLine, IsLogLine, IsNoLogLine};
 ghost use Rattle.log_grammar.specs.Places.{Place};
 ghost use Rattle.log_grammar.specs.Demands.{Accounts, demands, HaveDueReplies};
-ghost use Rattle.log_grammar.specs.laws.Histories.{IsHistory};
+ghost use Rattle.log_grammar.specs.Histories.{IsHistory};
 ghost use Rattle.log_grammar.specs.state_machine.Steps.{IsTransition, told_at};
 ghost use Rattle.log_grammar.specs.Begins.{IsLogUpTo, Begins, AreLines};
 ghost use Rattle.log_grammar.specs.Versions.{IsLogFront, IsClean, IsFaultLine, IsWhy};

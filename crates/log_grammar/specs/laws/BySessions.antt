@@ -11,7 +11,7 @@ use Rattle.log_grammar.specs.Places.{got_code}
 use Rattle.log_grammar.specs.Demands.{Accounts, IsTakenUpFor, demands}
 use Rattle.log_grammar.specs.laws.FitAccounts.{AllCanBeChallenged}
 use Rattle.log_grammar.specs.Sessions.{RecordedSession, session_lines, session_told, SessionMeets}
-use Rattle.log_grammar.specs.laws.Histories.{IsHistory}
+use Rattle.log_grammar.specs.Histories.{IsHistory}
 use Rattle.log_grammar.specs.Begins.{Begins}
 use Rattle.log_grammar.specs.VersionOne.{version_one}
 use Rattle.log_grammar.specs.LogKinds.{IsCleanOf}

@@ -8,7 +8,7 @@ use Rattle.account_book.specs.AccountAttempt.{AccountAttempt}
 use Rattle.log_grammar.specs.Lines.{LogLine, header_two, said, ended, halt, log_line_text}
 use Rattle.log_grammar.specs.laws.LastLines.{EndsWith}
 use Rattle.log_grammar.specs.Demands.{Accounts, demands}
-use Rattle.log_grammar.specs.laws.Histories.{IsHistory}
+use Rattle.log_grammar.specs.Histories.{IsHistory}
 use Rattle.log_grammar.specs.Numbered.{Numbered, Visit, visit_lines, AreOfSessions}
 use Rattle.log_grammar.specs.NumberedLines.{numbered_text, IsNumberedLineWritable}
 use Rattle.log_grammar.specs.LogKinds.{IsCleanOf}

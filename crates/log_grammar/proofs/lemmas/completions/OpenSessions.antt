@@ -101,7 +101,7 @@ no_line_leads_before_all d place line next goes never at = elim (visit_transitio
 ]
 
 -- no number of a log stands at the place before all lines
-no_number_is_before_all : (limit : ℕ) (d : Demands) (log : List (Numbered LogLine)) (p : ℕ → Place) (told : List AccountAttempt)
+pub no_number_is_before_all : (limit : ℕ) (d : Demands) (log : List (Numbered LogLine)) (p : ℕ → Place) (told : List AccountAttempt)
     → IsNumberedLogUpTo limit d log p told → (n : ℕ) → p n ≡ before_all → ⊥
 no_number_is_before_all limit d = holds_by_last
     (λ log. (p : ℕ → Place) (told : List AccountAttempt) → IsNumberedLogUpTo limit d log p told → (n : ℕ) → p n ≡ before_all → ⊥)

@@ -120,7 +120,7 @@ module _ (limit : ℕ) (accounts : Accounts) where
   ]
 
 -- the class of the line that a reason names as due
-abbrev NamesClass : Why → LineClass → Type 0
+abbrev pub NamesClass : Why → LineClass → Type 0
 NamesClass other_mechs class = class ≡ of_mechs
 NamesClass other_challenge class = class ≡ of_login_answers
 NamesClass (other_outcome due) class = class ≡ of_login_answers
@@ -128,7 +128,7 @@ NamesClass (other_reply moment due) class = class ≡ of_replies
 NamesClass why class = ⊥
 
 -- a line that says what is due by a reason is of the class that the reason names
-due_line_has_class : (why : Why) (line : LogLine) → SaysWhatIsDue why line → NamesClass why (class_of line)
+pub due_line_has_class : (why : Why) (line : LogLine) → SaysWhatIsDue why line → NamesClass why (class_of line)
 due_line_has_class is_cut line says = says
 due_line_has_class no_line line says = says
 due_line_has_class out_of_order line says = says
@@ -139,7 +139,7 @@ due_line_has_class (other_outcome (refused_with message)) line says = ap class_o
 due_line_has_class (other_reply moment due) line says = ap class_of says
 
 -- the reason why an answer to a login is wrong names the class of such answers
-wrong_answer_has_class : (accounts : Accounts) (place : Place) (why : Why) → IsReasonForAnswer accounts place why
+pub wrong_answer_has_class : (accounts : Accounts) (place : Place) (why : Why) → IsReasonForAnswer accounts place why
     → NamesClass why of_login_answers
 wrong_answer_has_class accounts (asks_bare m) why (inl (is, same)) = subst (λ (w : Why). NamesClass w of_login_answers) (sym same) refl
 wrong_answer_has_class accounts (asks_bare m) why (inr (none, same)) = subst (λ (w : Why). NamesClass w of_login_answers) (sym same) refl
@@ -161,7 +161,7 @@ wrong_reply_has_class accounts (got_code account sent) told moment why (due, is,
 wrong_reply_has_class accounts place told moment why wrong = absurd wrong
 
 -- the reason why a line is wrong names the class of the line
-wrong_line_has_class : (accounts : Accounts) (place : Place) (told : List AccountAttempt) (line : LogLine) (why : Why)
+pub wrong_line_has_class : (accounts : Accounts) (place : Place) (told : List AccountAttempt) (line : LogLine) (why : Why)
     → IsReasonForLine accounts place told line why → NamesClass why (class_of line)
 wrong_line_has_class accounts place told (said (mechs names)) why wrong = subst (λ (w : Why). NamesClass w of_mechs) (sym wrong) refl
 wrong_line_has_class accounts place told (said (cont message)) why wrong = wrong_answer_has_class accounts place why wrong
@@ -172,7 +172,7 @@ wrong_line_has_class accounts place told (said (replies moment reply)) why wrong
 wrong_line_has_class accounts place told line why wrong = absurd wrong
 
 -- a reason names at most one class
-one_class : (why : Why) (one other : LineClass) → NamesClass why one → NamesClass why other → one ≡ other
+pub one_class : (why : Why) (one other : LineClass) → NamesClass why one → NamesClass why other → one ≡ other
 one_class is_cut one other a b = absurd a
 one_class no_line one other a b = absurd a
 one_class out_of_order one other a b = absurd a
@@ -182,7 +182,7 @@ one_class (other_outcome due) one other a b = a ∙ sym b
 one_class (other_reply moment due) one other a b = a ∙ sym b
 
 -- a line that says what is due may have a number
-due_line_may_have_number : (why : Why) (line : LogLine) → SaysWhatIsDue why line → IsNoFirstLine line
+pub due_line_may_have_number : (why : Why) (line : LogLine) → SaysWhatIsDue why line → IsNoFirstLine line
 due_line_may_have_number is_cut line says = absurd says
 due_line_may_have_number no_line line says = absurd says
 due_line_may_have_number out_of_order line says = absurd says

@@ -16,13 +16,14 @@ use Rattle.log_grammar.specs.Sessions.{replied, halted_at, no_verdict, denied, g
 use Rattle.log_grammar.specs.Sessions.{challenged, no_first, quits_first, sends_first, no_invitation, unoffered, invited, no_login, quits_login}
 use Rattle.log_grammar.specs.Sessions.{with_first, without_first}
 
--- a line between the first and the last of a session
+-- a line between the first and the last of a session, but no reply to a code
 abbrev pub IsInnerLine : LogLine → Type 0
 IsInnerLine header_one = ⊥
 IsInnerLine header_two = ⊥
 IsInnerLine (said (mechs names)) = ⊥
 IsInnerLine (said busy) = ⊥
 IsInnerLine (said halt) = ⊥
+IsInnerLine (said (replies moment reply)) = ⊥
 IsInnerLine ended = ⊥
 IsInnerLine line = Unit {0}
 

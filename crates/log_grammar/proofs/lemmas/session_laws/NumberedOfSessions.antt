@@ -13,7 +13,7 @@ use Rattle.log_grammar.specs.laws.LastLines.{EndsWith}
 use Rattle.log_grammar.specs.Places.{between, halted}
 use Rattle.log_grammar.specs.Demands.{Accounts, demands}
 use Rattle.log_grammar.specs.Sessions.{closing}
-use Rattle.log_grammar.specs.laws.Histories.{IsHistory}
+use Rattle.log_grammar.specs.Histories.{IsHistory}
 use Rattle.log_grammar.specs.Numbered.{Numbered, of_number, Visit, let_in, turned_away, visit_lines, visit_told, visit_place, IsNumberedLogUpTo}
 use Rattle.log_grammar.specs.Numbered.{MayEndNumbered}
 use Rattle.log_grammar.specs.NumberedLines.{numbered_text, IsNumberedLine, IsNumberedLineWritable}
@@ -78,7 +78,7 @@ numbered_log_tells_in_time log visit numbered_told written lines told_of_each =
     (visit_tells_in_time (visit n) (subst Ranged (lines n) (lines_of_number_are_in_range n log written))))
 
 -- a number that was turned away, before its `E`, does not end with `E`
-busy_is_no_end : EndsWith (said busy ∷ []) (ended ∷ []) → ⊥
+pub busy_is_no_end : EndsWith (said busy ∷ []) (ended ∷ []) → ⊥
 busy_is_no_end (before, same) = let wrong = (same_from_push [] before (said busy) ended same).1 in cc wrong
 
 -- a number that was turned away does not end with a halt
@@ -88,27 +88,27 @@ turned_away_ends_with_no_halt true (before, same) =
 turned_away_ends_with_no_halt false (before, same) = let wrong = (same_from_push [] before (said busy) (said halt) same).1 in cc wrong
 
 -- the number of a closed visit is between sessions
-closed_visit_is_between : (o : Option Visit) → IsClosedVisit o → visit_place o ≡ between
+pub closed_visit_is_between : (o : Option Visit) → IsClosedVisit o → visit_place o ≡ between
 closed_visit_is_between None is = refl
 closed_visit_is_between (Some (let_in s)) is = closed_session_is_between s is
 closed_visit_is_between (Some (turned_away true)) is = refl
 closed_visit_is_between (Some (turned_away false)) is = absurd (busy_is_no_end is)
 
 -- the visit of a number that is between sessions is closed
-visit_between_is_closed : (o : Option Visit) → visit_place o ≡ between → IsClosedVisit o
+pub visit_between_is_closed : (o : Option Visit) → visit_place o ≡ between → IsClosedVisit o
 visit_between_is_closed None is = tt
 visit_between_is_closed (Some (let_in s)) is = session_between_is_closed s is
 visit_between_is_closed (Some (turned_away true)) is = (said busy ∷ [], refl)
 visit_between_is_closed (Some (turned_away false)) is = absurd (cc is)
 
 -- the number of a visit that ends with `S HALT` is halted
-halted_visit_is_at_halt : (o : Option Visit) → IsHaltedVisit o → visit_place o ≡ halted
+pub halted_visit_is_at_halt : (o : Option Visit) → IsHaltedVisit o → visit_place o ≡ halted
 halted_visit_is_at_halt None is = absurd is
 halted_visit_is_at_halt (Some (let_in s)) is = halted_session_is_at_halt s is
 halted_visit_is_at_halt (Some (turned_away closed)) is = absurd (turned_away_ends_with_no_halt closed is)
 
 -- the visit of a number that is halted ends with `S HALT`
-visit_at_halt_is_halted : (o : Option Visit) → visit_place o ≡ halted → IsHaltedVisit o
+pub visit_at_halt_is_halted : (o : Option Visit) → visit_place o ≡ halted → IsHaltedVisit o
 visit_at_halt_is_halted None is = absurd (cc is)
 visit_at_halt_is_halted (Some (let_in s)) is = session_at_halt_is_halted s is
 visit_at_halt_is_halted (Some (turned_away true)) is = absurd (cc is)
@@ -141,6 +141,22 @@ clean_numbered_log_has_sessions limit accounts bytes (first ∷ texts) cut (is, 
       },
     )
 
+-- a log of version 2 that consists of some sessions is one whose numbers are at the places of these sessions
+pub log_of_sessions_is_spelled : (limit : ℕ) (accounts : Accounts) (bytes : List ℕ) (log : List (Numbered LogLine))
+    (l : IsNumberedLogOf limit accounts bytes log)
+    → IsNumberedLogUpTo limit (demands accounts) log (λ n. visit_place (l.visit n)) (map (λ t. t.value) l.numbered_told)
+log_of_sessions_is_spelled limit accounts bytes log l =
+    let told = map (λ (t : Numbered AccountAttempt). t.value) l.numbered_told in
+    let moments = numbered_log_tells_in_time log l.visit l.numbered_told l.written l.sessions.lines l.sessions.told_of_each in
+    record {
+      visit = l.visit;
+      numbered_told = l.numbered_told;
+      sessions = l.sessions;
+      told_are = refl;
+      replies = (each_account_has_its_history accounts told moments).1 l.histories;
+      after = λ n. refl;
+    }
+
 -- a log of version 2 that consists of some sessions is clean
 numbered_log_of_sessions_is_clean : (limit : ℕ) (accounts : Accounts) (bytes : List ℕ) (log : List (Numbered LogLine))
     → IsNumberedLogOf limit accounts bytes log → IsCleanOf (version_two limit accounts) bytes
@@ -154,15 +170,7 @@ numbered_log_of_sessions_is_clean limit accounts bytes log l =
     } in
     let told = map (λ (t : Numbered AccountAttempt). t.value) l.numbered_told in
     let places = λ (n : ℕ). visit_place (l.visit n) in
-    let moments = numbered_log_tells_in_time log l.visit l.numbered_told l.written l.sessions.lines l.sessions.told_of_each in
-    let spells : IsNumberedLogUpTo limit (demands accounts) log places told = record {
-      visit = l.visit;
-      numbered_told = l.numbered_told;
-      sessions = l.sessions;
-      told_are = refl;
-      replies = (each_account_has_its_history accounts told moments).1 l.histories;
-      after = λ n. refl;
-    } in
+    let spells = log_of_sessions_is_spelled limit accounts bytes log l in
     let may = elim l.finished as (λ o. MayEndNumbered places) [
       | inl all ↦ inl (λ n. closed_visit_is_between (l.visit n) (all n))
       | inr halts ↦ inr (halts.0, halted_visit_is_at_halt (l.visit halts.0) halts.1)

@@ -1,5 +1,5 @@
 -- The first lines of a log of version 1, and the places to which they lead.
-use Rattle.std.proofs.Common.{◌≡◌, ℕ, List, [], ◌∷◌, refl}
+use Rattle.std.proofs.Common.{[], ◌∷◌, refl}
 use Rattle.log_grammar.specs.Lines.{header_one, said, mechs}
 use Rattle.log_grammar.specs.Places.{before_all, between, offered}
 use Rattle.log_grammar.specs.Words.{offered_names}
