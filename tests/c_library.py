@@ -69,52 +69,52 @@ def compiled(source: pathlib.Path, to: str, *words: str | pathlib.Path, compiler
     return program
 
 
-def in_c() -> list:
+def in_c(examples: pathlib.Path) -> list:
     """The command of the example in C, with the static library."""
-    return [compiled(EXAMPLES / "login.c", "login")]
+    return [compiled(examples / "login.c", f"{examples.name}_c")]
 
 
-def in_shared_c() -> list:
+def in_shared_c(examples: pathlib.Path) -> list:
     """The command of the example in C, with the shared library."""
-    return [compiled(EXAMPLES / "login.c", "login_shared", "-L", library(), "-lscramotp", f"-Wl,-rpath,{library()}")]
+    return [compiled(examples / "login.c", f"{examples.name}_shared", "-L", library(), "-lscramotp", f"-Wl,-rpath,{library()}")]
 
 
-def in_cpp() -> list:
+def in_cpp(examples: pathlib.Path) -> list:
     """The command of the example in C++."""
-    return [compiled(EXAMPLES / "login.cpp", "login_cpp", compiler="c++", standard="c++17")]
+    return [compiled(examples / "login.cpp", f"{examples.name}_cpp", compiler="c++", standard="c++17")]
 
 
-def in_python() -> list:
+def in_python(examples: pathlib.Path) -> list:
     """The command of the example in Python."""
-    return ["env", f"LIBRARY={library() / 'libscramotp.so.0'}", sys.executable, EXAMPLES / "login.py"]
+    return ["env", f"LIBRARY={library() / 'libscramotp.so.0'}", sys.executable, examples / "login.py"]
 
 
-def in_rust() -> list:
+def in_rust(examples: pathlib.Path) -> list:
     """The command of the example in Rust."""
-    program = pathlib.Path(MADE.name, "login_rs")
-    subprocess.run(["rustc", "-O", "-D", "warnings", "-L", library(), EXAMPLES / "login.rs", "-o", program], check=True)
+    program = pathlib.Path(MADE.name, f"{examples.name}_rs")
+    subprocess.run(["rustc", "-O", "-D", "warnings", "-L", library(), examples / "login.rs", "-o", program], check=True)
     return [program]
 
 
-def in_go() -> list:
+def in_go(examples: pathlib.Path) -> list:
     """The command of the example in Go."""
-    program = pathlib.Path(MADE.name, "login_go")
+    program = pathlib.Path(MADE.name, f"{examples.name}_go")
     flags = {"CGO_CFLAGS": f"-I{TOP / 'clib'}", "CGO_LDFLAGS": f"-L{library()} -Wl,-rpath,{library()}", "GOFLAGS": "-mod=mod"}
     folders = {"GOCACHE": f"{MADE.name}/go", "GOPATH": f"{MADE.name}/gopath", "HOME": MADE.name}
-    subprocess.run(["go", "build", "-o", program, EXAMPLES / "login.go"], env={**os.environ, **flags, **folders}, check=True)
+    subprocess.run(["go", "build", "-o", program, examples / "login.go"], env={**os.environ, **flags, **folders}, check=True)
     return [program]
 
 
-# Each example, by the compiler that it needs.
-LANGUAGES: list[tuple[str, Callable[[], list]]] = [
+# Each example, by the compiler that it needs, from the folder of its source.
+LANGUAGES: list[tuple[str, Callable[[pathlib.Path], list]]] = [
     ("cc", in_c), ("cc", in_shared_c), ("c++", in_cpp), ("python3", in_python), ("rustc", in_rust), ("go", in_go)
 ]
 
 
 @functools.cache
-def commands() -> list[list]:
-    """The command of each example whose compiler is on this machine."""
-    return [made() for compiler, made in LANGUAGES if has(f"the example for {compiler}", compiler)]
+def commands(examples: pathlib.Path) -> list[list]:
+    """The command of each example in this folder whose compiler is on this machine."""
+    return [made(examples) for compiler, made in LANGUAGES if has(f"the example for {compiler}", compiler)]
 
 
 class Login(NamedTuple):
@@ -129,9 +129,9 @@ class Login(NamedTuple):
     said: str
 
 
-def logins_are(rows: list[Login]) -> None:
+def logins_are(rows: list[Login], examples: pathlib.Path = EXAMPLES) -> None:
     """Runs each login with each example."""
-    for command in commands():
+    for command in commands(examples):
         for trial, row in each(rows):
             with trial:
                 words = [*command, row.of["mechanism"], row.of["salt"], row.of["nonce"], *row.act_as]
@@ -144,6 +144,17 @@ def published(folder: str) -> None:
     """The exchanges of both RFCs, byte for byte, with each example."""
     said = "user is logged in as user"
     logins_are([Login(it["mechanism"], it, [], it["first"], it["final"], [it["challenge"], it["verdict"]], said) for it in (SHA1, SHA256)])
+
+
+def no_room(folder: str) -> None:
+    """Each example, if it has too little room for the challenge, says so by its number, and sends none."""
+    small = pathlib.Path(folder, "small")
+    small.mkdir()
+    for example in EXAMPLES.glob("login.*"):
+        text, count = re.subn(r"(?:C\.)?SCRAMOTP_FIRST_ROOM|\b618\b", "50", example.read_text(encoding="utf-8"))
+        equal(count, 1, "how often the room is named in", example.name)
+        pathlib.Path(small, example.name).write_text(text, encoding="utf-8")
+    logins_are([Login(it["mechanism"], it, [], it["first"], "", [], "refused: 93") for it in (SHA1, SHA256)], small)
 
 
 def blocks_of_header(folder: str) -> None:
