@@ -291,7 +291,7 @@ def under_valgrind(folder: str) -> None:
     """Valgrind finds no fault in the examples in C."""
     if not has("the examples in C under valgrind", "valgrind"):
         return
-    watched, login = ["valgrind", "-q", "--error-exitcode=9"], in_c()
+    watched, login = ["valgrind", "-q", "--error-exitcode=9"], in_c(EXAMPLES)
     for trial, of in each([SHA1, SHA256]):
         with trial:
             for final, status, said in [(of["final"], 0, "user is logged in as user\n"), (of["final"][:-4] + "AAA=", 1, "refused: 36\n")]:
