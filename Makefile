@@ -18,7 +18,7 @@ time: TIMES = out/times.csv
 KIT = rattle-kit-13f logic dac8208d650f15bf
 # What the program stands on.
 LIBRARIES = mac_core otp_core scram_text scram_ends book_format account_book book_keeper book_file command_line command_words \
-	log_grammar sasl_log sasl_desk command_io account_commands commands
+	log_grammar sasl_log log_report sasl_desk command_io account_commands commands
 # What is installed beside it.
 TOOLS = $(addprefix tools/,check-code drop-tables edit-book find-key from-verifier list-accounts list-unlike-decoys log-report \
 	serve-hall set-password to-verifier)
@@ -101,7 +101,7 @@ $(foreach it,$(LIBRARIES),$(eval $(call library_rule,$(it))))
 libraries: $(foreach it,$(LIBRARIES),crates/$(it)/out/built)
 
 # The library for C, its header, and what pkg-config reads.
-libscramotp: kit crates/sasl_log/out/built
+libscramotp: kit crates/log_report/out/built
 	@echo "$$(date +%T) c_library" && mkdir -p crates/c_library/out && cd crates/c_library && \
 		{ rt lib --jobs $(JOBS) >out/build.log 2>&1 || { cat out/build.log; exit 1; }; }
 	python3 clib/merge.py $(CLIB_FOLDER) crates/c_library/out/libc_library.a

@@ -252,6 +252,13 @@ def pages_of_another_kit() -> Iterator[str]:
             yield f"{page.name}: {told}"
 
 
+def libraries_left_out() -> Iterator[str]:
+    """The libraries below the program that LIBRARIES of the Makefile does not have: make build would not see that one has changed."""
+    text = (TOP / "Makefile").read_text(encoding="utf-8").replace("\\\n", "")
+    listed = re.search(r"^LIBRARIES = (.+)$", text, re.MULTILINE).group(1).split()
+    yield from sorted({*rattle.below("scramotp", rattle.uses())} - {*listed})
+
+
 def taken_unproved() -> Iterator[str]:
     """The lines of sources, without their comments and the marks of a function that is exported to C, that have a word of UNPROVED."""
     for path, text in sources().items():
@@ -367,6 +374,7 @@ CHECKS = [
     Check("nothing has this name", unknown_names, in_docs(MAINTAINERS), lambda: ([*sources()], known_to_maintainers(), SKIPPED)),
     Check("no public function has this signature of docs/EMBEDDING.md", unknown_signatures),
     Check("the kit of the Makefile is missing", pages_of_another_kit),
+    Check("the Makefile's LIBRARIES lack this one", libraries_left_out),
     Check("docs/PROMISES.md says that no source has this word", taken_unproved),
     Check("docs/editions/ has another text than the sources give", stale_editions),
     Check("docs/TESTING.md does not name this script", untold_tests),
