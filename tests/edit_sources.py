@@ -2,10 +2,10 @@
 refuse planted bugs.
 
 An edit has the form that `rt help` describes. Those of a crate are the files in its must-fail/, and the blocks of its edits.txt, each of
-which begins with a line `edit: NAME`, or `edit: NAME always` if each run tries it. They change src/ or specs/, and one of a definition in
-specs/ belongs to no function. The edits in tests/planted/ change what no crate has: a tool, the package of hosts/, a man page, completions,
-the script that makes the package for Debian, a page with blocks that a test runs, what is around the library for C, the Makefile, a C file
-through which the program makes calls, power_model.py, or needs.py.
+which begins with a line `edit: NAME`. They change src/ or specs/, and one of a definition in specs/ belongs to no function. The edits in
+tests/planted/ change what no crate has: a tool, the package of hosts/, a man page, completions, the script that
+makes the package for Debian, a page with blocks that a test runs, what is around the library for C, the Makefile, a C file through which
+the program makes calls, power_model.py, or needs.py.
 """
 import csv
 import re
@@ -18,8 +18,6 @@ from typing import NamedTuple
 TOP = Path(__file__).resolve().parent.parent
 # What a line begins with that names the edit whose lines follow it, in the file of a crate's edits.
 NAMES = "edit: "
-# What such a line ends with if a run of a share of the edits tries this one too.
-ALWAYS = " always"
 # Where in a crate an edit may make changes; and where in the repository one in tests/planted/ may.
 EDITED = ("src/", "specs/")
 EDITED_BY_TESTS = ("tools/", "hosts/", "man/", "completions/", "packaging/", "docs/", "clib/", "plugins/", "Makefile", "tests/refuse_")
@@ -219,15 +217,8 @@ def edits_of(crate: Path) -> dict[str, str]:
     if blocks[0]:
         raise Unusable(f"{file.relative_to(TOP)} does not begin with '{NAMES}'")
     for block in blocks[1:]:
-        line, _, text = block.partition("\n")
-        name = line.removesuffix(ALWAYS)
+        name, _, text = block.partition("\n")
         if name in found:
             raise Unusable(f"two edits of {crate.name} are named {name}")
         found[name] = text.rstrip("\n") + "\n"
     return found
-
-
-def always_tried(crate: Path) -> set[str]:
-    """Returns the names of those edits in a crate's edits.txt that each run tries."""
-    lines = (crate / "edits.txt").read_text(encoding="utf-8").split("\n")
-    return {it[len(NAMES):].removesuffix(ALWAYS) for it in lines if it.startswith(NAMES) and it.endswith(ALWAYS)}
