@@ -192,7 +192,7 @@ systemctl restart ssh
 
 def passwords_for_sshd(folder: str) -> None:
     """With the page's services for PAM, sshd lets in by a password, or by a password and a code in one line, once. The log of the hall is
-    clean, and has these logins."""
+    clean, and has these logins, and beside it is noted from where sshd says that they came."""
     if not can_boot("passwords for sshd") or not has("passwords for sshd", "sshd", "ssh", "ssh-keygen"):
         return
     right = "password of user"
@@ -209,6 +209,8 @@ def passwords_for_sshd(folder: str) -> None:
         machine.does("systemctl stop hall")
         told = machine.does("scramotp audit --book log.toml --log log")
         equal(told, "clean sessions=4 accepted=3 codes=1\n", "the audit")
+        came = machine.does("grep ' open ' log.clients | cut -d ' ' -f 6-")
+        holds(re.fullmatch(r"(service=sshd rhost=(127\.0\.0\.1|::1) tty=ssh\n){4}", came), "what is noted of the clients", came)
 
 
 def logs_of(machine: Machine) -> list[str]:
