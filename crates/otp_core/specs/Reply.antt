@@ -45,7 +45,7 @@ IsFitting start history moment (CodeTexts.two_texts first second) c =
     × (code_text start first_counter ≡ first) × (code_text start (first_counter + 1) ≡ second)
 
 -- the reply that is due: Locked if the failures have reached the limit; else Pass of the least counter that fits, if there is one;
--- else Fail
+-- else Fail, also before t0 and to two codes in a row of TOTP, where none fits
 abbrev pub IsDueReply : (start : TokenFields) → (history : List Attempt) → (moment : ℕ) → CodeTexts → Reply → Type 0
 IsDueReply start history moment sent Locked = limit_of start ≤ failures_after start history
 IsDueReply start history moment sent (Pass c) =
