@@ -147,7 +147,7 @@ def needed_by(one: Declaration) -> Iterator[Declaration]:
 
 
 def contract(crate: str, source: str, function: str, clauses: str) -> Declaration:
-    """The contract of a function, with the words above it: of its clauses those with these names, or all."""
+    """The contract of a function, with the words above it: of its clauses those with these names, or all. The names of others follow."""
     file = CRATES / crate / "src" / source
     text = file.read_text(encoding="utf-8")
     [(head, body)] = re.findall(
@@ -155,7 +155,9 @@ def contract(crate: str, source: str, function: str, clauses: str) -> Declaratio
     )
     parts = re.split(r"^(?= +(?:ensures|requires|//))", body, flags=re.MULTILINE)
     kept = [part for part in parts if not clauses or re.match(rf"\s+(?:ensures|requires) (?:{clauses.replace(' ', '|')}) ", part)]
-    return Declaration(file, (head + "".join(kept)).rstrip("\n"), "", imports_of(text))
+    left = [found[1] for part in parts if part not in kept and (found := re.match(r"\s+(?:ensures|requires) (\w+) ", part))]
+    named = re.match(" +", body)[0] + f"// clauses that are not shown here: {', '.join(left)}" if left else ""
+    return Declaration(file, (head + "".join(kept) + named).rstrip("\n"), "", imports_of(text))
 
 
 def reached(begin: list[Declaration], only_named: dict[str, str]) -> list[Declaration]:
