@@ -4,11 +4,12 @@
 -- LeastFound: the reply for the least counter that fits is due. OneReply: at most one reply is due.
 -- LeastNumbers: there is a least number of a decidable kind, or none. SomeReply: some reply is due.
 -- AlikePasts: what fits after one of two alike pasts fits after the other. AfterReply: what can pass after a reply.
--- Steps: one more attempt keeps two pasts alike; `Token::judge` cites it. Used: what can pass is above what was used.
--- Joins: histories that go on where others led.
+-- Failures: how a reply changes the failures. Steps: one more attempt keeps two pasts alike; `Token::judge` cites it.
+-- Used: what can pass is above what was used. Joins: histories that go on where others led.
 pub mod AfterReply
 pub mod AlikePasts
 pub mod Digits
+pub mod Failures
 pub mod Joins
 pub mod LeastFound
 pub mod LeastNumbers

@@ -1,8 +1,9 @@
 -- The reply due to an attempt (RFC 4226, sections 7.2 to 7.4; RFC 6238, sections 5.2 and 6), given the start of a token and the history
 -- since.
-use Rattle.std.specs.Prelude.{ℕ, ◌+◌, ◌≤◌, ◌<◌, ◌≡◌, List, [], ◌∷◌}
+use Rattle.std.specs.Prelude.{ℕ, ◌+◌, ◌≤◌, ◌<◌, ◌≡◌, Bool, true, false, if◌then◌else◌, List, count_by, is_some}
+use Rattle.std.specs.List.{before_first, list_any}
 use Rattle.otp_core.specs.Hash.{hotp_text_by}
-use Rattle.otp_core.specs.Attempt.{Attempt, CodeTexts}
+use Rattle.otp_core.specs.Attempt.{Attempt, CodeTexts, passed_counter}
 use Rattle.otp_core.specs.Window.{IsCandidate, IsPairCandidate}
 use Rattle.otp_core.specs.declared.hash.OtpHash.TheVariants.{Sha1}
 use Rattle.otp_core.specs.declared.token.reply.Reply.{Reply}
@@ -25,16 +26,16 @@ abbrev pub failures_of : TokenFields → ℕ
 failures_of (Hotp t) = t.failures
 failures_of (Totp t) = t.failures
 
--- the failures after a reply: a pass ends them, and while the token is locked no more are counted
-abbrev pub failures_after_reply : Reply → ℕ → ℕ
-failures_after_reply (Pass c) before = 0
-failures_after_reply Fail before = before + 1
-failures_after_reply Locked before = before
+-- whether the reply is a Fail
+abbrev pub is_fail : Reply → Bool
+is_fail Fail = true
+is_fail _ = false
 
--- the failures after a history: those since the last pass; without a pass, the start's and all that followed
+-- the failures: the number of Fails after the last Pass (a history has the latest first), plus the start's if there is no Pass
 abbrev pub failures_after : (start : TokenFields) → (history : List Attempt) → ℕ
-failures_after start [] = failures_of start
-failures_after start (a ∷ before) = failures_after_reply a.reply (failures_after start before)
+failures_after start history =
+    let passed = λ (a : Attempt). is_some (passed_counter a.reply) in
+    count_by (λ a. is_fail a.reply) (before_first passed history) + (if list_any passed history then 0 else failures_of start)
 
 -- what was sent fits this counter: one text that is its code, if the counter can pass; or two texts that are the codes of the
 -- counter before it and of this one, if the two can pass as a pair

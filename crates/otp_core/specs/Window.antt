@@ -1,12 +1,10 @@
 -- The counters that can pass, given the start of a token and the history since.
-use Rattle.std.specs.Prelude.{ℕ, ◌+◌, ◌≤◌, ◌<◌, max, ℤ, pos, ◌+ℤ◌, ◌-ℤ◌, ◌≤ℤ◌, ◌⊎◌, List, [], ◌∷◌, Option, Some, None}
-use Rattle.std.specs.List.{AllByRecursion}
-use Rattle.std.specs.Option.{ForSome, option_map_or}
-use Rattle.otp_core.specs.Ranges.{IsCounter}
+use Rattle.std.specs.Prelude.{ℕ, ◌+◌, ◌≤◌, ◌<◌, max, ℤ, pos, ◌+ℤ◌, ◌-ℤ◌, ◌≤ℤ◌, ◌⊎◌, List, [], ◌∷◌, get_or, Option, Some, None}
+use Rattle.std.specs.List.{AllByRecursion, filter_map}
+use Rattle.std.specs.Option.{ForSome, option_map, option_map_or}
+use Rattle.otp_core.specs.Ranges.{max_counter}
 use Rattle.otp_core.specs.Code.{steps_from}
-use Rattle.otp_core.specs.Attempt.{Attempt, used_in}
-use Rattle.otp_core.specs.declared.token.reply.Reply.{Reply}
-use Rattle.otp_core.specs.declared.token.reply.Reply.TheVariants.{Pass, Fail, Locked}
+use Rattle.otp_core.specs.Attempt.{Attempt, passed_counter, used_in}
 use Rattle.otp_core.specs.declared.token.kinds.TotpFields.{TotpFields}
 use Rattle.otp_core.specs.declared.token.kinds.TokenFields.{TokenFields}
 use Rattle.otp_core.specs.declared.token.kinds.TokenFields.TheVariants.{Hotp, Totp}
@@ -25,22 +23,17 @@ first_in_window next counters = option_map_or (λ most. most + 1) (greatest coun
 pub record IsInHotpWindow (first ahead c : ℕ) : Type 0 where
   pub not_before : first ≤ c
   pub within : c ≤ first + ahead
-  pub most : IsCounter c
+  pub most : c ≤ max_counter
 
 -- T, TOTP's present step (RFC 6238, section 4.2)
 abbrev pub step_at : TotpFields → (moment : ℕ) → ℕ
 step_at t moment = steps_from t.t0 t.step moment
 
--- the drift after a reply: after a pass, by how many steps the step that passed was ahead of the present step; else as before
-abbrev pub drift_after_reply : Reply → (now before : ℤ) → ℤ
-drift_after_reply (Pass w) now before = pos w -ℤ now
-drift_after_reply Fail now before = before
-drift_after_reply Locked now before = before
-
--- the drift after a history: that of the last pass, or the start's if there was none
+-- the drift (RFC 6238, section 6): w - T of the last Pass, where w is its counter and T the step of its moment, or else the start's
 abbrev pub drift_after : (start : TotpFields) → (history : List Attempt) → ℤ
-drift_after t [] = t.drift
-drift_after t (a ∷ before) = drift_after_reply a.reply (pos (step_at t a.moment)) (drift_after t before)
+drift_after t history =
+    let drifts = filter_map (λ a. option_map (λ w. pos w -ℤ pos (step_at t a.moment)) (passed_counter a.reply)) history in
+    get_or drifts 0 t.drift
 
 -- a step of TOTP's window (RFC 6238, sections 5.2 and 6): at most `back` steps before and `ahead` steps after the present step plus
 -- the drift, and at most max_drift steps from the present step itself
@@ -58,7 +51,7 @@ IsAbove counters c = AllByRecursion (λ used. used < c) counters
 -- sync_ahead counters after it (RFC 4226, section 7.4), and the second is at most the greatest that can pass. With TOTP two codes in a
 -- row never pass.
 abbrev pub IsPairCandidate : (start : TokenFields) → (history : List Attempt) → (c : ℕ) → Type 0
-IsPairCandidate (Hotp t) history c = IsInHotpWindow (first_in_window t.next (used_in history)) t.sync_ahead c × IsCounter (c + 1)
+IsPairCandidate (Hotp t) history c = IsInHotpWindow (first_in_window t.next (used_in history)) t.sync_ahead c × (c + 1 ≤ max_counter)
 IsPairCandidate (Totp t) history c = ⊥
 
 -- the counter can pass at a moment, after a history from a start. A step of TOTP passes at most once, and no earlier step passes

@@ -5,7 +5,7 @@ use Rattle.otp_core.specs.Ranges.{IsMoment, max_counter}
 use Rattle.otp_core.specs.Attempt.{Attempt, CodeTexts, attempt_of, counters_of, used_in}
 use Rattle.otp_core.specs.Attempt.CodeTexts.{one_text, two_texts}
 use Rattle.otp_core.specs.Window.{IsCandidate, IsPairCandidate, IsInHotpWindow, IsInTotpWindow, IsAbove, first_in_window, greatest, step_at}
-use Rattle.otp_core.specs.Reply.{IsDueReply, IsFitting, failures_of, failures_after_reply}
+use Rattle.otp_core.specs.Reply.{IsDueReply, IsFitting}
 use Rattle.otp_core.specs.History.{AreAlike, without_state}
 use Rattle.otp_core.specs.State.{after_reply, after_pass}
 use Rattle.otp_core.specs.declared.token.reply.Reply.{Reply}
@@ -16,16 +16,14 @@ use Rattle.otp_core.specs.declared.token.kinds.TokenFields.{TokenFields}
 use Rattle.otp_core.specs.declared.token.kinds.TokenFields.TheVariants.{Hotp, Totp}
 use Rattle.otp_core.proofs.lemmas.AlikePasts.{iff_is_symmetric, iff_is_transitive, alike_is_symmetric, alike_pasts_share_fitting}
 
--- after a reply a token has the settings that it had, and as many failures as the reply leaves
-pub reply_keeps_settings_and_counts_failures : (t : TokenFields) (moment : ℕ) (reply : Reply)
-    → (without_state t ≡ without_state (after_reply t moment reply))
-    × (failures_after_reply reply (failures_of t) ≡ failures_of (after_reply t moment reply))
-reply_keeps_settings_and_counts_failures (Hotp t) moment (Pass p) = (refl, refl)
-reply_keeps_settings_and_counts_failures (Hotp t) moment Fail = (refl, refl)
-reply_keeps_settings_and_counts_failures (Hotp t) moment Locked = (refl, refl)
-reply_keeps_settings_and_counts_failures (Totp t) moment (Pass p) = (refl, refl)
-reply_keeps_settings_and_counts_failures (Totp t) moment Fail = (refl, refl)
-reply_keeps_settings_and_counts_failures (Totp t) moment Locked = (refl, refl)
+-- after a reply a token has the settings that it had
+pub reply_keeps_settings : (t : TokenFields) (moment : ℕ) (reply : Reply) → without_state t ≡ without_state (after_reply t moment reply)
+reply_keeps_settings (Hotp t) moment (Pass p) = refl
+reply_keeps_settings (Hotp t) moment Fail = refl
+reply_keeps_settings (Hotp t) moment Locked = refl
+reply_keeps_settings (Totp t) moment (Pass p) = refl
+reply_keeps_settings (Totp t) moment Fail = refl
+reply_keeps_settings (Totp t) moment Locked = refl
 
 -- after a pass of one code, HOTP's first counter is one more than the counter that passed, which was not before the first
 single_code_moves_first : (o : Option ℕ) (next p : ℕ) → option_map_or (λ most. most + 1) o next ≤ p

@@ -67,6 +67,6 @@ pub reply_for_least_is_due : (token : TokenFields) (moment : ℕ) (sent : CodeTe
     → reply ≡ reply_of found → failures_of token < limit_of token → IsLeast (IsFitting token [] moment sent) found
     → IsDueReply token [] moment sent reply
 reply_for_least_is_due token moment sent None reply is below none =
-    subst (λ (r : Reply). IsDueReply token [] moment sent r) (sym is) (below, none)
+    subst (λ (r : Reply). IsDueReply token [] moment sent r) (sym is) (omega arith, none)
 reply_for_least_is_due token moment sent (Some c) reply is below (fits, least) =
-    subst (λ (r : Reply). IsDueReply token [] moment sent r) (sym is) (below, fits, least)
+    subst (λ (r : Reply). IsDueReply token [] moment sent r) (sym is) (omega arith, fits, least)

@@ -3,7 +3,7 @@ use Rattle.std.proofs.Common.{◌≡◌, ◌≤◌, ◌+◌, ℕ, List, [], ◌�
 use Rattle.otp_core.specs.Ranges.{IsMoment, max_counter}
 use Rattle.otp_core.specs.TokenRanges.{IsInRange}
 use Rattle.otp_core.specs.Attempt.{Attempt, CodeTexts, attempt_of}
-use Rattle.otp_core.specs.Reply.{IsDueReply, failures_after_reply}
+use Rattle.otp_core.specs.Reply.{IsDueReply}
 use Rattle.otp_core.specs.History.{IsAfter, AreAlike}
 use Rattle.otp_core.specs.State.{after_reply, after_pass}
 use Rattle.otp_core.specs.TokenAttempt.{IsTokenAttempt}
@@ -11,7 +11,8 @@ use Rattle.otp_core.specs.declared.token.reply.Reply.{Reply}
 use Rattle.otp_core.specs.declared.token.kinds.TokenFields.{TokenFields}
 use Rattle.otp_core.specs.declared.token.kinds.TokenFields.TheVariants.{Hotp, Totp}
 use Rattle.otp_core.proofs.lemmas.AlikePasts.{alike_is_transitive, alike_pasts_share_reply}
-use Rattle.otp_core.proofs.lemmas.AfterReply.{reply_keeps_settings_and_counts_failures, reply_keeps_candidates_alike, token_agrees_after_reply}
+use Rattle.otp_core.proofs.lemmas.AfterReply.{reply_keeps_settings, reply_keeps_candidates_alike, token_agrees_after_reply}
+use Rattle.otp_core.proofs.lemmas.Failures.{failures_after_reply, failures_by_reply, token_keeps_failures}
 
 -- one more attempt keeps two pasts alike
 pub attempt_keeps_pasts_alike : (s t : TokenFields) (h k : List Attempt) (m : ℕ) (sent : CodeTexts) (reply : Reply) → AreAlike s h t k
@@ -20,7 +21,8 @@ pub attempt_keeps_pasts_alike : (s t : TokenFields) (h k : List Attempt) (m : �
 attempt_keeps_pasts_alike s t h k m sent reply alike is due =
     let passing = reply_keeps_candidates_alike s t h k m sent reply alike is due in record {
       settings = alike.settings;
-      failures = ap (failures_after_reply reply) alike.failures;
+      failures = failures_by_reply s h m sent reply ∙ ap (failures_after_reply reply) alike.failures
+          ∙ sym (failures_by_reply t k m sent reply);
       candidates = passing.0;
       pairs = passing.1;
     }
@@ -33,8 +35,8 @@ due_reply_leads_on s t h m sent reply is after due =
       legal = (is, alike_pasts_share_reply s t h [] m sent reply after.alike is due, after.legal);
       alike = alike_is_transitive s t (after_reply t m reply) (attempt_of m sent reply ∷ h) (attempt_of m sent reply ∷ []) []
           (attempt_keeps_pasts_alike s t h [] m sent reply after.alike is due) (record {
-            settings = (reply_keeps_settings_and_counts_failures t m reply).0;
-            failures = (reply_keeps_settings_and_counts_failures t m reply).1;
+            settings = reply_keeps_settings t m reply;
+            failures = failures_by_reply t [] m sent reply ∙ token_keeps_failures t m reply;
             candidates = passing.0;
             pairs = passing.1;
           });
