@@ -180,7 +180,7 @@ pass_is_due_to_next : (t : HotpFields) (moment : ℕ) → t.failures < t.limit �
 pass_is_due_to_next t moment unlocked counter =
     let due : IsInHotpWindow t.next t.look_ahead t.next =
     record { not_before = omega arith; within = omega arith; most = omega (arith, counter) } in
-    (unlocked, (due, refl), λ k fits. fits.0.not_before)
+    (omega arith, (due, refl), λ k fits. fits.0.not_before)
 
 -- the law: after a valid login, the code of a HOTP token's next counter passes, if failures do not lock the token and the counter is not
 -- used up
@@ -199,7 +199,7 @@ pub pass_is_due_to_two : (t : HotpFields) (moment : ℕ) → t.failures < t.limi
 pass_is_due_to_two t moment unlocked counter =
     let due : IsInHotpWindow t.next t.sync_ahead t.next =
     record { not_before = omega arith; within = omega arith; most = omega (arith, counter) } in
-    (unlocked, (t.next, refl, (due, omega (arith, counter)), refl, refl), λ k fits. omega (arith, fits.1, fits.2.0.not_before))
+    (omega arith, (t.next, refl, (due, omega (arith, counter)), refl, refl), λ k fits. omega (arith, fits.1, fits.2.0.not_before))
 
 -- the codes of a HOTP token's next two counters can be sent
 pub next_two_are_code_words : (t : HotpFields) → IsDigitCount t.digits → IsCodeWord (code_text (Hotp t) t.next)

@@ -38,7 +38,7 @@ first_counter_is_at_fault accounts mechanism name exchange moment t login at has
 -- two codes in a row fail with a TOTP token that failures do not lock
 two_totp_codes_fail : (t : TotpFields) (moment : ℕ) (first second : List ℕ) → t.failures < t.limit
     → IsDueReply (Totp t) [] moment (two_texts first second) Fail
-two_totp_codes_fail t moment first second unlocked = (unlocked, λ k fits. fits.2)
+two_totp_codes_fail t moment first second unlocked = (omega arith, λ k fits. fits.2)
 
 -- after a valid login, a pass of two codes in a row with a TOTP token that failures do not lock is at fault in line 8: FAIL is due
 pub totp_pass_is_at_fault : (accounts : Accounts) (mechanism name : List ℕ) (exchange : Exchange) (first second : List ℕ)
