@@ -15,14 +15,14 @@ ghost use Rattle.account_commands.specs.Enrol.{IsReadOrMade, IsThisOrReadBook, S
 use account_book::{Book, SALT_LEN};
 use book_file::{BookFile, BookFileExt, FileStore};
 use clap::ArgMatches;
-use command_io::held_book::HeldBook;
+use command_io::file::open_file;
 use command_io::new_account::{NewAccount, Salts};
 use command_io::open_book::ReadBook;
 use command_io::output::print_done;
 use command_io::prompt::{PASSWORD, ask};
-use command_io::random::RandomFile;
+use command_io::random::random_bytes;
 use command_io::terminal::{TerminalInput, TerminalOutput};
-use command_io::{input, open_book};
+use command_io::{held_book, input, open_book};
 use command_line::{Fault, OptionName, value};
 use command_words::given;
 use scram_text::{Password, Salt};
@@ -60,9 +60,10 @@ where
     let account = read_account(rt.alloc(), matches, input, faults)?;
     let path = given(matches, OptionName::Book);
     let read = open_book::read_and_release(rt, path, faults)?;
-    let mut random = RandomFile::open(rt, given(matches, OptionName::Random))?;
-    let (book, text) = read_or_new(rt.alloc(), read, &mut random)?;
-    let salts = two_salts(&mut random)?;
+    let random_path = given(matches, OptionName::Random);
+    let mut random = open_file(rt, random_path)?;
+    let (book, text) = read_or_new(rt.alloc(), random_path, read, &mut random)?;
+    let salts = two_salts(rt.alloc(), random_path, &mut random)?;
     add_and_save(rt, path, book, text, &account, &salts, faults)?;
     print_done::<R, O>("enrolled", account.name.text(), output)
 }
@@ -94,33 +95,33 @@ fn read_account<I: TerminalInput, E: TerminalOutput>(
 }
 
 // The book that was read and its text; or, if there was no file, a new book, whose decoy key is the next random bytes.
-fn read_or_new<F: Read + Drop>(
+fn read_or_new<F: Read>(
     alloc: Global,
+    random_path: &str,
     read: Option<ReadBook>,
-    random: &mut RandomFile<'_, F>,
+    random: &mut F,
 ) -> Result<(Book, Option<String>), Fault>
     requires { IfSome read (λ read. IsReadBook F.remaining (string_bytes read.text) read.book) }
-    ensures book { IfOk result (λ found. IsReadOrMade F.remaining (F.remaining random.old.file) (F.remaining random.new.file) found.0) }
+    ensures book { IfOk result (λ found. IsReadOrMade F.remaining (F.remaining random.old) (F.remaining random.new) found.0) }
     ensures text { IfOk result (λ found. IfSome found.1 (λ text. IsBookText (string_bytes text) found.0)) }
-    ensures err { IfErr result (IsFileUnreadOrNoMemory random.old.path.now) }
-    ensures path { random.new.path.now ≡ random.old.path.now }
+    ensures err { IfErr result (IsFileUnreadOrNoMemory random_path.now) }
 {
     match read {
         Some(read) => Ok((read.book, Some(read.text))),
         None => {
-            let key = random.bytes()?;
+            let key = random_bytes(alloc, random_path, random)?;
             Ok((Book::new(alloc, key, DECOY_COUNT), None))
         }
     }
 }
 
 // Two salts of random bytes, for SCRAM-SHA-1 and for SCRAM-SHA-256.
-fn two_salts<F: Read + Drop>(random: &mut RandomFile<'_, F>) -> Result<Salts, Fault>
-    ensures salts { IfOk result (λ salts. TakesSalts (F.remaining random.old.file) salts (F.remaining random.new.file)) }
-    ensures err { IfErr result (IsFileUnreadOrNoMemory random.old.path.now) }
+fn two_salts<F: Read>(alloc: Global, random_path: &str, random: &mut F) -> Result<Salts, Fault>
+    ensures salts { IfOk result (λ salts. TakesSalts (F.remaining random.old) salts (F.remaining random.new)) }
+    ensures err { IfErr result (IsFileUnreadOrNoMemory random_path.now) }
 {
-    let sha1 = salt(random.bytes()?);
-    let sha256 = salt(random.bytes()?);
+    let sha1 = salt(random_bytes(alloc, random_path, random)?);
+    let sha256 = salt(random_bytes(alloc, random_path, random)?);
     Ok(Salts { sha1, sha256 })
 }
 
@@ -167,12 +168,12 @@ where
     let found = open_book::text_of(alloc, &mut file, path)?;
     match found {
         Some(found) if text.as_ref() != Some(&found) => {
-            let mut held = open_book::parse_held(alloc, file, found, path)?;
-            held.enrol(alloc, account, salts)
+            let mut held = open_book::parse_held(alloc, file, found)?;
+            held_book::enrol(alloc, path, &mut held, account, salts)
         }
         _ => {
             let store = FileStore::new(file, text.unwrap_or(String::new(alloc)));
-            match HeldBook::begin(alloc, book, store, path) {
+            match held_book::begin(alloc, path, book, store) {
                 Ok(_) => Ok(()),
                 Err((_, fault)) => Err(fault),
             }

@@ -5,8 +5,8 @@ ghost use Rattle.account_commands.specs.Unlock.{CannotUnlock, UnlocksAsked};
 
 use book_file::BookFileExt;
 use clap::ArgMatches;
-use command_io::open_book;
 use command_io::output::print_done;
+use command_io::{held_book, open_book};
 use command_line::{Fault, OptionName, value};
 use command_words::given;
 use std::fs::Files;
@@ -32,7 +32,8 @@ where
     ensures why { IfErr result (CannotUnlock R.File.remaining matches.now) }
 {
     let name = value::name(given(matches, OptionName::Name))?;
-    let mut held = open_book::open(rt, given(matches, OptionName::Book), faults)?;
-    held.unlock(rt.alloc(), &name)?;
+    let path = given(matches, OptionName::Book);
+    let mut held = open_book::open(rt, path, faults)?;
+    held_book::unlock(rt.alloc(), path, &mut held, &name)?;
     print_done::<R, O>("unlocked", name.text(), output)
 }

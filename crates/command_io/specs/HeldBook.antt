@@ -14,13 +14,13 @@ use Rattle.account_book.specs.SavedBooks.{needs_save, SavesBook, HoldsBook}
 use Rattle.account_book.specs.Store.{StoreFacts}
 use Rattle.account_book.specs.Tokens.{IsUnlocked, IsBookAttempt, token_at}
 use Rattle.book_keeper.specs.Keeper.{IsChangeUnsaved, IsSavedIfDue, IsSavingReplyDue}
+use Rattle.book_keeper.specs.declared.keeper.Keeper.{Keeper}
 use Rattle.book_keeper.specs.declared.keeper.SaveFault.TheVariants.{NotSaved}
 use Rattle.book_file.specs.Text.{IsRead}
 use Rattle.command_line.specs.Fault.{fault_of_book}
 use Rattle.command_line.specs.declared.fault.Fault.{Fault}
 use Rattle.command_line.specs.declared.fault.Fault.TheVariants.{NoSuchAccount, NoToken, CannotRead, CannotWrite, NoMemory}
 use Rattle.command_io.specs.File.{IsFileUnwrittenOrNoMemory}
-use Rattle.command_io.specs.declared.held_book.HeldBook.{HeldBook}
 use Rattle.command_io.specs.declared.new_account.NewAccount.{NewAccount}
 use Rattle.command_io.specs.declared.new_account.Salts.{Salts}
 
@@ -30,8 +30,8 @@ pub record HeldFacts : Type 0 where
   pub store : StoreFacts
 
 -- what is known of this held book
-abbrev pub held_shown : {S : Type 0} → (S → StoreFacts) → HeldBook S → HeldFacts
-held_shown facts held = record { book = held.keeper.book; store = facts held.keeper.store }
+abbrev pub held_shown : {S : Type 0} → (S → StoreFacts) → Keeper S → HeldFacts
+held_shown facts held = record { book = held.book; store = facts held.store }
 
 -- the store of a held book has not failed, and holds a text of the book, wherever that text is from
 abbrev pub HoldsItsBook : HeldFacts → Type 0

@@ -5,4 +5,5 @@ pub mod Input
 pub mod Printed
 -- what contracts of this crate speak of, for callers that do not list the crates below
 pub use Rattle.book_keeper.specs.Keeper.{FailsToSave, IsChangeUnsaved, IsSavingReplyDue}
+pub use Rattle.book_keeper.specs.declared.keeper.Keeper.{Keeper}
 pub use Rattle.book_keeper.specs.declared.keeper.SaveFault.TheVariants.{NotSaved}

@@ -8,9 +8,9 @@ ghost use Rattle.command_line.specs.Fault.{fault_of_book};
 ghost use Rattle.command_io.specs.HeldBook.{CannotHoldOrNoMemory, IsReadBook, CannotOpenBook};
 
 use crate::file::read_fault;
-use crate::held_book::HeldBook;
 use account_book::{Book, BookStore, BookWhy};
 use book_file::{BookFile, BookFileExt, FileStore, HoldFault};
+use book_keeper::Keeper;
 use command_line::{Fault, TerminalText};
 use std::alloc::Global;
 use std::fs::Files;
@@ -54,19 +54,17 @@ where
 
 /// Holds the book at `path` and reads it. Faults: those of `read_and_release`, and CannotRead if there is no file.
 #[tactic(auto, using(crate::proofs::lemmas::HeldFaults::bad_text_prevents_opening))]
-pub fn open<'a, 'r, R, E>(
+pub fn open<'r, R, E>(
     rt: &'r R,
-    path: &'a str,
+    path: &str,
     faults: &mut E,
-) -> Result<HeldBook<'a, FileStore<'r, R>>, Fault>
+) -> Result<Keeper<FileStore<'r, R>>, Fault>
 where
     R: Files + Clock + AllocGlobal,
     R::File: BookFileExt,
     E: Write,
-    ensures read { IfOk result (λ held. IsReadBook R.File.remaining (⟦<FileStore<'r, R> as BookStore>⟧.facts held.keeper.store).saved
-        held.keeper.book) }
-    ensures working { IfOk result (λ held. (⟦<FileStore<'r, R> as BookStore>⟧.facts held.keeper.store).failed ≡ false) }
-    ensures path { IfOk result (λ held. held.path.now ≡ path.now) }
+    ensures read { IfOk result (λ held. IsReadBook R.File.remaining (⟦<FileStore<'r, R> as BookStore>⟧.facts held.store).saved held.book) }
+    ensures working { IfOk result (λ held. (⟦<FileStore<'r, R> as BookStore>⟧.facts held.store).failed ≡ false) }
     ensures err { IfErr result (CannotOpenBook R.File.remaining path.now) }
 {
     let mut file = match BookFile::hold(rt, path) {
@@ -74,7 +72,7 @@ where
         Err(fault) => return Err(hold_fault(rt.alloc(), path, fault, faults)),
     };
     match text_of(rt.alloc(), &mut file, path)? {
-        Some(text) => parse_held(rt.alloc(), file, text, path),
+        Some(text) => parse_held(rt.alloc(), file, text),
 
         // Not reached: `hold` returns Missing if there is no file. No contract says so.
         None => Err(Fault::CannotRead(String::from_str(rt.alloc(), path)?)),
@@ -82,25 +80,23 @@ where
 }
 
 /// Reads the book of `file` from its text, `text`. Faults: BadBook if the text is not a book, and NoMemory.
-pub fn parse_held<'a, 'r, R>(
+pub fn parse_held<'r, R>(
     alloc: Global,
     file: BookFile<'r, R>,
     text: String,
-    path: &'a str,
-) -> Result<HeldBook<'a, FileStore<'r, R>>, Fault>
+) -> Result<Keeper<FileStore<'r, R>>, Fault>
 where
     R: Files + Clock + AllocGlobal,
     R::File: BookFileExt,
-    ensures text { IfOk result (λ held. IsBookText (⟦<FileStore<'r, R> as BookStore>⟧.facts held.keeper.store).saved held.keeper.book) }
-    ensures saved { IfOk result (λ held. (⟦<FileStore<'r, R> as BookStore>⟧.facts held.keeper.store).saved ≡ string_bytes text) }
-    ensures working { IfOk result (λ held. (⟦<FileStore<'r, R> as BookStore>⟧.facts held.keeper.store).failed ≡ false) }
-    ensures path { IfOk result (λ held. held.path.now ≡ path.now) }
+    ensures text { IfOk result (λ held. IsBookText (⟦<FileStore<'r, R> as BookStore>⟧.facts held.store).saved held.book) }
+    ensures saved { IfOk result (λ held. (⟦<FileStore<'r, R> as BookStore>⟧.facts held.store).saved ≡ string_bytes text) }
+    ensures working { IfOk result (λ held. (⟦<FileStore<'r, R> as BookStore>⟧.facts held.store).failed ≡ false) }
     ensures err { IfErr result (λ fault. (fault ≡ Fault.NoMemory)
         ⊎ ((found : BookFault) × (fault ≡ fault_of_book found) × IsBookFault (string_bytes text) found)) }
 {
     let book = Book::read(alloc, text.as_bytes())?;
     let store = FileStore::new(file, text);
-    Ok(HeldBook::resume(book, store, path))
+    Ok(Keeper::resume(book, store))
 }
 
 /// The text of a held book's file, or None if there is no file yet. Faults: CannotRead, BadBook if the text is not UTF-8, and NoMemory.

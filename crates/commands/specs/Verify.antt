@@ -10,6 +10,7 @@ use Rattle.scram_text.specs.Class.{IsPlainName}
 use Rattle.account_book.specs.{BookFields}
 use Rattle.account_book.specs.Accounts.{account_at}
 use Rattle.account_book.specs.Store.{StoreFacts}
+use Rattle.command_io.specs.{Keeper}
 use Rattle.command_io.specs.HeldBook.{IsTokenFault}
 use Rattle.book_file.specs.Saved.{IsSavedText}
 use Rattle.command_line.specs.declared.fault.Fault.{Fault}
@@ -20,7 +21,6 @@ use Rattle.log_grammar.specs.Lines.{reply_text}
 use Rattle.sasl_desk.specs.{CodeTexts, IsMoment, Reply, Pass, Fail, Locked}
 use Rattle.command_io.specs.HeldBook.{HeldFacts, held_shown, IsReadBook, IsReplySaved, IsReplyUnsaved, CannotOpenBook, LacksToken}
 use Rattle.command_io.specs.Input.{LinesInTurn, IsInputUnreadOrNoMemory}
-use Rattle.command_io.specs.declared.held_book.HeldBook.{HeldBook}
 use Rattle.commands.specs.SentCodes.{SaysCodes}
 
 -- the reply says that the code, or both codes in a row, passed
@@ -39,7 +39,7 @@ pub record VerifyRun : Type 0 where
   pub printed : Option (List ℕ)
 
 -- a run of `verify`, from its held book
-abbrev pub verify_run_shown : {S : Type 0} → (S → StoreFacts) → HeldBook S → Option (List ℕ) → VerifyRun
+abbrev pub verify_run_shown : {S : Type 0} → (S → StoreFacts) → Keeper S → Option (List ℕ) → VerifyRun
 verify_run_shown facts held printed = record { held = held_shown facts held; printed = printed }
 
 -- the printing of a reply fails: the output can't be written, and what it holds is not known; or memory ran out, and nothing is printed

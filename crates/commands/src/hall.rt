@@ -12,7 +12,7 @@ mod logged_hall;
 use account_book::BookStore;
 use book_file::BookFileExt;
 use clap::ArgMatches;
-use command_io::held_book::HeldBook;
+use command_io::held_book::Keeper;
 use command_io::input::Lines;
 use command_io::open_book;
 use command_io::prompt::{EVENTS, ask};
@@ -53,10 +53,11 @@ where
     ensures err { IfErr result.0 (λ fault. StopsHall R.File.remaining R.File.contents matches.now fault (I.remaining input.old)
         (O.contents output) (O.contents result.1)) }
 {
-    match open_book::open(rt, given(matches, OptionName::Book), faults) {
+    let path = given(matches, OptionName::Book);
+    match open_book::open(rt, path, faults) {
         Ok(held) => {
             ask(input, faults, EVENTS);
-            let (heard, output, _store) = hear_input(rt.alloc(), held, input, output);
+            let (heard, output, _store) = hear_input(rt.alloc(), path, held, input, output);
             (heard, output)
         }
         Err(fault) => (Err(fault), output),
@@ -66,7 +67,8 @@ where
 // Gives a hall over a held book the event in each input line, and prints its log. Returns the output and the store too.
 fn hear_input<S, I, O>(
     alloc: Global,
-    held: HeldBook<'_, S>,
+    path: &str,
+    held: Keeper<S>,
     input: &mut I,
     output: O,
 ) -> (Result<(), Fault>, O, S)
@@ -74,24 +76,22 @@ where
     S: BookStore + Drop,
     I: BufRead,
     O: Write + Drop,
-    ensures ok { OnOk result.0 (PrintsHallLog S.IsStored held.entry.keeper.book (I.remaining input.old) [] (S.facts result.2)
-        (O.contents output) (O.contents result.1)) }
+    ensures ok { OnOk result.0 (PrintsHallLog S.IsStored held.book (I.remaining input.old) [] (S.facts result.2) (O.contents output)
+        (O.contents result.1)) }
     ensures err { IfErr result.0 (λ fault. StopsAfter fault
-        (DoesNotBegin held.entry.path.now held.entry.keeper.book (S.facts held.entry.keeper.store) (S.facts result.2) fault)
-        (O.contents output) (O.contents result.1)
-        ((last : List (List ℕ)) × PrintsHallLog S.IsStored held.entry.keeper.book (I.remaining input.old) last (S.facts result.2)
+        (DoesNotBegin path.now held.book (S.facts held.store) (S.facts result.2) fault) (O.contents output) (O.contents result.1)
+        ((last : List (List ℕ)) × PrintsHallLog S.IsStored held.book (I.remaining input.old) last (S.facts result.2)
         (O.contents output) (O.contents result.1))) }
     ensures bad { IsErrOf result.0 Fault.BadEvent
-        → PrintsToBadEvent S.IsStored held.entry.keeper.book (S.facts result.2) (I.remaining input.old) (O.contents output)
-        (O.contents result.1) }
-    ensures why { IfErr result.0 (StopsHearing held.entry.path.now) }
+        → PrintsToBadEvent S.IsStored held.book (S.facts result.2) (I.remaining input.old) (O.contents output) (O.contents result.1) }
+    ensures why { IfErr result.0 (StopsHearing path.now) }
     // However the run ends, what it leaves is a book to which attempts lead, if the store held a text of the book as it began.
-    ensures left { HoldsItsBook (held_shown S.facts held.entry) → HoldsAfterAttempts held.entry.keeper.book (S.facts result.2) }
+    ensures left { HoldsItsBook (held_shown S.facts held) → HoldsAfterAttempts held.book (S.facts result.2) }
 {
     let mut lines = Lines::new(input);
-    match LoggedHall::begin(alloc, held, OverWrite::new(output)) {
+    match LoggedHall::begin(alloc, path, held, OverWrite::new(output)) {
         Ok(mut hall) => {
-            let heard = hall.hear_lines(alloc, &mut lines);
+            let heard = hall.hear_lines(alloc, path, &mut lines);
             let (log, store) = hall.into_log_and_store();
             (heard, log.into_writer(), store)
         }

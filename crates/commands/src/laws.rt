@@ -129,9 +129,9 @@ pub fn other_commands_make_changes<R: Files, S: BookStore>()
 /// Of `unlock`, `enrol`, `login` and `hall`: the book of each text that the store may hold when the run ends, wherever it ends (of
 /// `verify`: `answered_lines_are_changes`). By `unlock`, `enrol`, `added` and `attempts` changes lead to it, so `no_counter_passes_twice`
 /// of `sasl_desk` also holds if the next run begins with such a text:
-/// - A change that fails leaves the book that was held, or this book with the change (`unlock`, `enrol`: `HeldBook::unlock` and
-///   `HeldBook::enrol` ensure `FailsToChange`). So does a failed save of a book to which an account was added, in a store that holds the
-///   book from before (`added`: `HeldBook::begin` ensures `FailsToSave`).
+/// - A change that fails leaves the book that was held, or this book with the change (`unlock`, `enrol`: `held_book::unlock` and
+///   `held_book::enrol` ensure `FailsToChange`). So does a failed save of a book to which an account was added, in a store that holds the
+///   book from before (`added`: `held_book::begin` ensures `FailsToSave`).
 /// - The runs of `login` and `hall` leave a book to which attempts lead (`attempts`: `talk_over` and `hear_input` ensure
 ///   `HoldsAfterAttempts`).
 ///

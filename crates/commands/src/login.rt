@@ -32,7 +32,7 @@ use book_file::{BookFileExt, FileStore};
 use clap::ArgMatches;
 use client_end::ClientEnd;
 use clock::{GivenMoment, LoginClock, ReadyClock};
-use command_io::held_book::HeldBook;
+use command_io::held_book::Keeper;
 use command_io::input::Lines;
 use command_io::open_book;
 use command_io::prompt::{LOGIN, ask};
@@ -59,7 +59,11 @@ const MAX_LINE_AND_LF_LEN: usize = MAX_LINE_LEN + 1;
 // of all codes, if one was given.
 #[derive(Drop)]
 struct LoginSetup<'a, S, I> {
-    held: HeldBook<'a, S>,
+    held: Keeper<S>,
+
+    // The path of the book's file as the caller gave it, for faults. It is here since a call can't pick `G` below if it passes a `&str`.
+    path: &'a str,
+
     client: ClientEnd,
     lines: Lines<'a, I>,
     server_nonce: NoncePart,
@@ -142,20 +146,22 @@ where
     ensures is_password { IfOk result (λ login. IsPassword login.client.password) }
     ensures password { IfOk result (λ login. (has_lf : Bool)
         × TakesLine (I.remaining input.old) login.client.password has_lf (I.remaining login.lines.input.now)) }
-    ensures book { IfOk result (λ login. IsReadBook R.File.remaining (⟦<FileStore<'a, R> as BookStore>⟧.facts login.held.keeper.store).saved
-        login.held.keeper.book) }
-    ensures path { IfOk result (λ login. login.held.path.now ≡ given_value matches.now OptionName.Book) }
+    ensures book { IfOk result (λ login. IsReadBook R.File.remaining (⟦<FileStore<'a, R> as BookStore>⟧.facts login.held.store).saved
+        login.held.book) }
+    ensures path { IfOk result (λ login. login.path.now ≡ given_value matches.now OptionName.Book) }
     ensures err { IfErr result (CannotPrepare R.File.remaining matches.now (I.remaining input.old)) }
 {
     let options = read_options(matches)?;
     ask(input, faults, LOGIN);
     let mut lines = Lines::new(input);
     let password = read_password(rt.alloc(), &mut lines)?;
-    let held = open_book::open(rt, given(matches, OptionName::Book), faults)?;
+    let path = given(matches, OptionName::Book);
+    let held = open_book::open(rt, path, faults)?;
     let random = given(matches, OptionName::Random);
     let nonces = nonces::login_nonces(rt, random, options.client_nonce, options.server_nonce)?;
     Ok(LoginSetup {
         held,
+        path,
         client: ClientEnd::new(options.user, password, nonces.client),
         lines,
         server_nonce: nonces.server,
@@ -196,23 +202,22 @@ where
     O: Write + Drop,
     requires { login.moment ≡ G.moment }
     ensures ok { OnOk result.0
-        (HasSavedLog S.IsStored (IsGiven G.moment) IsClean login.entry.held.keeper.book login.entry.server_nonce (S.facts result.2)
+        (HasSavedLog S.IsStored (IsGiven G.moment) IsClean login.entry.held.book login.entry.server_nonce (S.facts result.2)
         (O.contents output) (O.contents result.1)) }
     ensures talk { IfOk result.0 (λ passed. PrintsTalk login.entry.client.user login.entry.client.nonce login.entry.client.password
         (I.remaining login.entry.lines.input.now) (O.contents output) passed (O.contents result.1)) }
     ensures err { IfErr result.0 (λ fault. StopsAfter fault
-        (DoesNotBegin login.entry.held.path.now login.entry.held.keeper.book (S.facts login.entry.held.keeper.store)
-        (S.facts result.2) fault)
+        (DoesNotBegin login.entry.path.now login.entry.held.book (S.facts login.entry.held.store) (S.facts result.2) fault)
         (O.contents output) (O.contents result.1)
-        (HasSavedLog S.IsStored (IsGiven G.moment) IsLogFront login.entry.held.keeper.book login.entry.server_nonce (S.facts result.2)
+        (HasSavedLog S.IsStored (IsGiven G.moment) IsLogFront login.entry.held.book login.entry.server_nonce (S.facts result.2)
         (O.contents output) (O.contents result.1))) }
-    ensures why { IfErr result.0 (StopsTalking login.entry.held.path.now) }
+    ensures why { IfErr result.0 (StopsTalking login.entry.path.now) }
     // However the run ends, what it leaves is a book to which attempts lead, if the store held a text of the book as it began.
-    ensures left { HoldsItsBook (held_shown S.facts login.entry.held)
-        → HoldsAfterAttempts login.entry.held.keeper.book (S.facts result.2) }
+    ensures left { HoldsItsBook (held_shown S.facts login.entry.held) → HoldsAfterAttempts login.entry.held.book (S.facts result.2) }
 {
     let LoginSetup {
         held,
+        path,
         client,
         mut lines,
         server_nonce,
@@ -222,6 +227,7 @@ where
     let clock = LoginClock::<R, G>::new(rt, moment);
     match Talk::begin(
         alloc,
+        path,
         held,
         connection.ends(),
         OverWrite::new(output),
@@ -230,6 +236,7 @@ where
         Ok(mut talk) => {
             let passed = converse(
                 alloc,
+                path,
                 &mut talk,
                 connection,
                 server_nonce,
@@ -247,7 +254,8 @@ where
 // session is open. Faults: CannotReadInput, CannotWrite, CannotWriteOutput, Socket and NoMemory.
 fn converse<S, R, W, L, C, I>(
     alloc: Global,
-    talk: &mut Talk<'_, S, R, W, L, C>,
+    path: &str,
+    talk: &mut Talk<S, R, W, L, C>,
     connection: &Connection,
     server_nonce: NoncePart,
     client: ClientEnd,
@@ -273,10 +281,10 @@ where
         (L.facts talk.new.log).given) }
     ensures after_fault { IfErr result (IsLogAfterFaultWith S.facts S.IsStored C.IsNow server_nonce
         talk.old.desk (L.facts talk.old.log) talk.new.desk (L.facts talk.new.log)) }
-    ensures err { IfErr result (StopsTalking talk.old.path.now) }
+    ensures err { IfErr result (StopsTalking path.now) }
 {
-    let passed = talk.log_in_and_send(alloc, server_nonce, client, lines)?;
-    hang_up(alloc, talk, connection)?;
+    let passed = talk.log_in_and_send(alloc, path, server_nonce, client, lines)?;
+    hang_up(alloc, path, talk, connection)?;
     Ok(passed)
 }
 
@@ -284,7 +292,8 @@ where
 #[tactic(auto, using(crate::proofs::lemmas::LogSays::log_says_nothing))]
 fn hang_up<S, R, W, L, C>(
     alloc: Global,
-    talk: &mut Talk<'_, S, R, W, L, C>,
+    path: &str,
+    talk: &mut Talk<S, R, W, L, C>,
     connection: &Connection,
 ) -> Result<(), Fault>
 where
@@ -300,13 +309,13 @@ where
     ensures closed { OnOk result (desk_phase talk.new.desk ≡ Phase.Closed) }
     ensures after_fault { IfErr result (IsLogAfterFault S.facts S.IsStored C.IsNow talk.old.desk (L.facts talk.old.log)
         talk.new.desk (L.facts talk.new.log)) }
-    ensures err { IfErr result (StopsTalking talk.old.path.now) }
+    ensures err { IfErr result (StopsTalking path.now) }
 {
     if talk.is_closed() {
         return Ok(());
     }
     connection.hang_up()?;
-    let said = talk.turn(alloc)?;
+    let said = talk.turn(alloc, path)?;
     if !talk.is_closed() || !said.is_empty() {
         return Err(Fault::Socket);
     }

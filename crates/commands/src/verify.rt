@@ -9,12 +9,12 @@ use crate::sent_codes::codes_in;
 use account_book::{BookStore, Reply};
 use book_file::BookFileExt;
 use clap::ArgMatches;
-use command_io::held_book::HeldBook;
+use command_io::held_book::Keeper;
 use command_io::input::Lines;
-use command_io::open_book;
 use command_io::output::print_and_flush;
 use command_io::prompt::{CODES, ask};
 use command_io::terminal::{TerminalInput, TerminalOutput};
+use command_io::{held_book, open_book};
 use command_line::{Fault, OptionName, value};
 use command_words::given;
 use sasl_desk::Moment;
@@ -57,16 +57,18 @@ where
     let alloc = rt.alloc();
     let name = value::name(given(matches, OptionName::Name))?;
     let moment = value::moment(OptionName::Moment, given(matches, OptionName::Moment))?;
-    let mut held = open_book::open(rt, given(matches, OptionName::Book), faults)?;
-    held.check_token(&name)?;
+    let path = given(matches, OptionName::Book);
+    let mut held = open_book::open(rt, path, faults)?;
+    held_book::check_token(held.book(), &name)?;
     ask(input, faults, CODES);
-    answer_lines(alloc, &mut held, &name, moment, input, output)
+    answer_lines(alloc, path, &mut held, &name, moment, input, output)
 }
 
 // Answers each line, and returns whether every code passed. What a line changes is saved before its reply is printed.
 fn answer_lines<S: BookStore, I: BufRead, O: Write>(
     alloc: Global,
-    held: &mut HeldBook<'_, S>,
+    path: &str,
+    held: &mut Keeper<S>,
     name: &PlainName,
     moment: Moment,
     input: &mut I,
@@ -75,13 +77,13 @@ fn answer_lines<S: BookStore, I: BufRead, O: Write>(
     ensures ok { IfOk result (λ all_passed. AnswersAllLines S.IsStored name.now moment (I.remaining input.old)
         (verify_run_shown S.facts held.old (O.contents output.old)) all_passed
         (verify_run_shown S.facts held.new (O.contents output.new))) }
-    ensures err { IfErr result (λ fault. AnswersFirstLines S.IsStored held.old.path.now name.now moment (I.remaining input.old)
+    ensures err { IfErr result (λ fault. AnswersFirstLines S.IsStored path.now name.now moment (I.remaining input.old)
         (verify_run_shown S.facts held.old (O.contents output.old)) fault (verify_run_shown S.facts held.new (O.contents output.new))) }
 {
     let mut lines = Lines::new(input);
     let mut all_passed = true;
     while let Some(line) = lines.next(alloc)? {
-        let reply = answer_line(alloc, held, name, moment, line.as_slice(), output)?;
+        let reply = answer_line(alloc, path, held, name, moment, line.as_slice(), output)?;
         all_passed &= is_pass(reply);
     }
     Ok(all_passed)
@@ -90,7 +92,8 @@ fn answer_lines<S: BookStore, I: BufRead, O: Write>(
 // Answers one line: judges its code or codes, saves what that changes, and prints the reply.
 fn answer_line<S: BookStore, O: Write>(
     alloc: Global,
-    held: &mut HeldBook<'_, S>,
+    path: &str,
+    held: &mut Keeper<S>,
     name: &PlainName,
     moment: Moment,
     line: &[u8],
@@ -98,11 +101,10 @@ fn answer_line<S: BookStore, O: Write>(
 ) -> Result<Reply, Fault>
     ensures ok { IfOk result (λ reply. IsLineAnswered S.IsStored name.now moment line.now
         (verify_run_shown S.facts held.old (O.contents output.old)) reply (verify_run_shown S.facts held.new (O.contents output.new))) }
-    ensures err { IfErr result (λ fault. FailsAtLine S.IsStored held.old.path.now name.now moment line.now
+    ensures err { IfErr result (λ fault. FailsAtLine S.IsStored path.now name.now moment line.now
         (verify_run_shown S.facts held.old (O.contents output.old)) fault (verify_run_shown S.facts held.new (O.contents output.new))) }
-    ensures path { held.new.path.now ≡ held.old.path.now }
 {
-    let reply = held.judge(alloc, name, moment, codes_in(line))?;
+    let reply = held_book::judge(alloc, path, held, name, moment, codes_in(line))?;
     print_reply(alloc, held, moment, reply, output)?;
     Ok(reply)
 }
@@ -114,11 +116,11 @@ fn is_pass(reply: Reply) -> bool
     matches!(reply, Reply::Pass(_))
 }
 
-// Prints a reply and flushes the output. It may be called only after `HeldBook::judge` has returned the reply, and so has saved the
+// Prints a reply and flushes the output. It may be called only after `held_book::judge` has returned the reply, and so has saved the
 // held book with this attempt in it, unless the reply is LOCKED. Faults: CannotWriteOutput and NoMemory.
 fn print_reply<S: BookStore, O: Write>(
     alloc: Global,
-    held: &HeldBook<'_, S>,
+    held: &Keeper<S>,
     moment: Moment,
     reply: Reply,
     output: &mut O,

@@ -6,7 +6,8 @@ ghost use Rattle.commands.specs.Nonces.{AreGivenOrRead, TakesNonce, TakesNonces}
 ghost use Rattle.commands.specs.declared.login.nonces.TheConstants.{NONCE_BYTES};
 
 use base64::engine::general_purpose::STANDARD;
-use command_io::random::RandomFile;
+use command_io::file::open_file;
+use command_io::random::random_bytes;
 use command_line::Fault;
 use scram_text::NoncePart;
 use std::alloc::Global;
@@ -37,42 +38,43 @@ pub(crate) fn login_nonces<R: Files + AllocGlobal>(
     match (client, server) {
         (Some(client), Some(server)) => Ok(Nonces { client, server }),
         (client, server) => {
-            let mut random = RandomFile::open(rt, path)?;
-            login_nonces_from(rt.alloc(), client, server, &mut random)
+            let mut random = open_file(rt, path)?;
+            login_nonces_from(rt.alloc(), path, client, server, &mut random)
         }
     }
 }
 
-// The two nonces of a login; one that is not given is made from the next random bytes.
-fn login_nonces_from<F: Read + Drop>(
+// The two nonces of a login; one that is not given is made from the next random bytes. `path` is that of their file.
+fn login_nonces_from<F: Read>(
     alloc: Global,
+    path: &str,
     client: Option<NoncePart>,
     server: Option<NoncePart>,
-    random: &mut RandomFile<'_, F>,
+    random: &mut F,
 ) -> Result<Nonces, Fault>
     ensures ok { IfOk result (λ nonces.
-        TakesNonces (F.remaining random.old.file) client server nonces.client nonces.server (F.remaining random.new.file)) }
-    ensures err { IfErr result (IsFileUnreadOrNoMemory random.old.path.now) }
+        TakesNonces (F.remaining random.old) client server nonces.client nonces.server (F.remaining random.new)) }
+    ensures err { IfErr result (IsFileUnreadOrNoMemory path.now) }
 {
-    let client = given_or_random(alloc, client, random)?;
-    let server = given_or_random(alloc, server, random)?;
+    let client = given_or_random(alloc, path, client, random)?;
+    let server = given_or_random(alloc, path, server, random)?;
     Ok(Nonces { client, server })
 }
 
-// The nonce `given`, or one made from the next random bytes.
-fn given_or_random<F: Read + Drop>(
+// The nonce `given`, or one made from the next random bytes. `path` is that of their file.
+fn given_or_random<F: Read>(
     alloc: Global,
+    path: &str,
     given: Option<NoncePart>,
-    random: &mut RandomFile<'_, F>,
+    random: &mut F,
 ) -> Result<NoncePart, Fault>
-    ensures ok { IfOk result (λ nonce. TakesNonce (F.remaining random.old.file) given nonce (F.remaining random.new.file)) }
-    ensures err { IfErr result (IsFileUnreadOrNoMemory random.old.path.now) }
-    ensures path { random.new.path.now ≡ random.old.path.now }
+    ensures ok { IfOk result (λ nonce. TakesNonce (F.remaining random.old) given nonce (F.remaining random.new)) }
+    ensures err { IfErr result (IsFileUnreadOrNoMemory path.now) }
 {
     match given {
         Some(nonce) => Ok(nonce),
         None => {
-            let bytes: [u8; NONCE_BYTES] = random.bytes()?;
+            let bytes: [u8; NONCE_BYTES] = random_bytes(alloc, path, random)?;
             nonce_of_bytes(alloc, bytes.as_slice())
         }
     }

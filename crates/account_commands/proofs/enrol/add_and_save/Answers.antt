@@ -11,9 +11,9 @@ returns-in-Some-found-clause-saved g c =
     let saved = rw (sym c.in_ok-held-in-Some-found.ensures.saved) at read in
     on_ok_from_both c.enrol.result c.enrol.ensures.added c.enrol.ensures.saved
     (λ added done. record {
-      first = c.in_ok-held-in-Some-found.held.keeper.book;
+      first = c.in_ok-held-in-Some-found.held.book;
       is_first = inr (_, record { is_text = c.in_ok-held-in-Some-found.ensures.text; is_read = saved });
-      last = c.enrol.new.self.keeper.book;
+      last = c.enrol.new.held.book;
       is_enrolled = added;
       is_saved = (done.text, done.is_text, done.stored);
     })
@@ -35,8 +35,7 @@ returns-in-Some-found-clause-err g c =
     let read = rw c.in-Some-found.is at c.in_ok-found.ensures.read in
     let saved = rw (sym c.in_ok-held-in-Some-found.ensures.saved) at read in
     IfErr-weaker c.enrol.result _ _
-    (λ fault other. failed_saving_has_reason _ _ _ _ _ _ _ (record { is_text = c.in_ok-held-in-Some-found.ensures.text; is_read = saved })
-    (rw c.in_ok-held-in-Some-found.ensures.path at other))
+    (λ fault. failed_saving_has_reason _ _ _ _ _ _ _ (record { is_text = c.in_ok-held-in-Some-found.ensures.text; is_read = saved }))
     c.enrol.ensures.err
 
 pub returns-in_err-add_to-clause-err : goal.returns-in_err-add_to-clause-err

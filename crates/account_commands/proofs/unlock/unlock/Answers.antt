@@ -8,9 +8,9 @@ returns-clause-ok g c =
     (λ printed. record {
       name_range = rw c.given.ensures at c.in_ok-name.ensures.ok.1;
       text = _;
-      first = c.in_ok-held.held.keeper.book;
+      first = c.in_ok-held.held.book;
       is_first = c.in_ok-held.ensures.read;
-      last = c.unlock.new.self.keeper.book;
+      last = c.unlock.new.held.book;
       is_unlocked = done.unlocked;
       is_saved = (done.saved.text, done.saved.is_text, done.saved.stored);
       printed = rw (c.text.ensures.value, c.in_ok-name.ensures.ok.0, c.given.ensures) at printed;
@@ -20,4 +20,4 @@ returns-clause-ok g c =
 pub print_done-requires : goal.print_done-requires
 print_done-requires g c =
     let saved = c.in_ok-unlock.ensures.done.saved in
-    (c.unlock.new.self.keeper.book, (saved.text, saved.is_text, saved.stored))
+    (c.unlock.new.held.book, (saved.text, saved.is_text, saved.stored))

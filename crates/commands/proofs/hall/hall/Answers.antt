@@ -1,4 +1,4 @@
-use Rattle.std.proofs.Common.{inl, inr, ℕ, List, ◌∙◌, refl, subst}
+use Rattle.std.proofs.Common.{inl, inr, ℕ, List, refl, subst}
 use Rattle.std.proofs.lemmas.Result.{IfErr-weaker}
 use Rattle.command_io.specs.File.{IsFileUnwrittenOrNoMemory}
 use Rattle.command_io.specs.HeldBook.{CannotOpenBook}
@@ -11,9 +11,9 @@ pub returns-in-Ok-clause-err : goal.returns-in-Ok-clause-err
 returns-in-Ok-clause-err g c =
     IfErr-weaker c.hear_input-heard.result.0 _ _
     (λ fault (stops, bad, why). inr (
-      subst (λ (path : List ℕ). StopsHearing path fault) (c.in-Ok.ensures.path ∙ c.given.ensures) why,
+      subst (λ (path : List ℕ). StopsHearing path fault) c.given-path.ensures why,
       stop_weakens
-          (λ unbegun. subst (λ (path : List ℕ). IsFileUnwrittenOrNoMemory path fault) (c.in-Ok.ensures.path ∙ c.given.ensures) unbegun.0)
+          (λ unbegun. subst (λ (path : List ℕ). IsFileUnwrittenOrNoMemory path fault) c.given-path.ensures unbegun.0)
           (λ printed. (
             printed.0,
             record {
@@ -32,4 +32,4 @@ returns-in-Ok-clause-err g c =
 
 pub returns-in-Err-clause-err : goal.returns-in-Err-clause-err
 returns-in-Err-clause-err g c =
-    inl (subst (λ (path : List ℕ). CannotOpenBook g.R.File.Read.remaining path c.in-Err.fault) c.given.ensures c.in-Err.ensures.err, refl)
+    inl (subst (λ (path : List ℕ). CannotOpenBook g.R.File.Read.remaining path c.in-Err.fault) c.given-path.ensures c.in-Err.ensures.err, refl)

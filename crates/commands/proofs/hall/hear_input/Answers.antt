@@ -45,9 +45,6 @@ returns-in-Ok-clause-bad g c = λ is.
 pub returns-in-Err-clause-bad : goal.returns-in-Err-clause-bad
 returns-in-Err-clause-bad g c = λ is. absurd (failed_begin_excludes_bad_event _ _ _ _ _ _ _ c.in-Err.ensures.err (cc is))
 
-pub returns-in-Ok-clause-why : goal.returns-in-Ok-clause-why
-returns-in-Ok-clause-why g c = rw c.in-Ok.ensures.path at c.hear_lines-heard.ensures.why
-
 pub returns-in-Err-clause-why : goal.returns-in-Err-clause-why
 returns-in-Err-clause-why g c = failed_begin_stops_hearing _ _ _ _ _ _ _ c.in-Err.ensures.err
 

@@ -48,7 +48,7 @@ returns-clause-err g c =
       last = _;
       begins = options_begin_run _ c.given.ensures c.in_ok-name.ensures.ok.1 c.given-2.ensures c.in_ok-moment.ensures.ok.0
           c.in_ok-moment.ensures.ok.1 c.in_ok-held.ensures.read c.in_ok-held.ensures.working refl;
-      answers = rw (c.in_ok-name.ensures.ok.0, c.given.ensures, c.in_ok-held.ensures.path, c.given-3.ensures) at answers;
+      answers = rw (c.in_ok-name.ensures.ok.0, c.given.ensures, c.given-path.ensures) at answers;
       printed = refl;
     }))
     c.answer_lines.ensures.err
