@@ -18,7 +18,7 @@ from typing import NamedTuple
 import rattle
 import run
 import editions
-from edit_sources import TOP, Unusable, edits_of, planted_edits, planted_rows, read_edit, read_planted
+from edit_sources import TOP, Unusable, edits_of, planted_rows, read_edit, read_planted
 
 PAGES = [TOP / "README.md", TOP / "CONTRIBUTING.md", TOP / "CHANGELOG.md", *sorted(TOP.glob("docs/*.md")), TOP / "bench" / "README.md"]
 PAGES += sorted(TOP.glob("plugins/*/README.md"))
@@ -47,7 +47,7 @@ UNPROVED = re.compile(r"\b(?:unsafe|extern|axiom)\b")
 # What marks a function that is exported to C: it is proved as any other.
 EXPORTED = re.compile(r'^(?:#\[unsafe\(no_mangle\)\]$|pub extern "C" fn )')
 
-# The fewest characters that a row of planted.csv has of what a test says: fewer might stand in the output for another reason.
+# The fewest characters that a planted bug has of what a test says: fewer might stand in the output for another reason.
 LEAST_SAID = 12
 
 # How a page gives a name together with the file in which it stands: the name first, or the file and then some names.
@@ -281,11 +281,8 @@ def cited_inner() -> Iterator[str]:
 
 
 def stale_bugs() -> Iterator[str]:
-    """The rows of planted.csv that have no edit, no test or too little of what the test says, and the edits in a folder planted/ that have
-    no row or do not apply."""
-    rows = planted_rows(TOP)
-    yield from (f"no row for {of}/{bug}" for of, bug in planted_edits(TOP).keys() - {(row.of, row.bug) for row in rows})
-    for row in rows:
+    """The planted bugs that do not apply, or have no test or too little of what it says."""
+    for row in planted_rows(TOP):
         name = f"{row.of}/{row.bug}"
         try:
             read_planted(TOP, row.of, row.bug)
@@ -295,9 +292,9 @@ def stale_bugs() -> Iterator[str]:
         if not any(re.search(rf"\b(?:def|fn) {row.test}\(", file.read_text(encoding="utf-8")) for file in files if file.exists()):
             yield f"{name}: {row.by} has no test {row.test}"
         if len(row.says) < LEAST_SAID:
-            yield f"{name}: {row.test} of {row.by}: the row has under {LEAST_SAID} characters of what the test says: {row.says!r}"
-        if re.search("[a-z]: $", row.says):
-            yield f"{name}: {row.test} of {row.by}: the row names a check, and not what the test has seen: {row.says!r}"
+            yield f"{name}: {row.test} of {row.by}: it has under {LEAST_SAID} characters of what the test says: {row.says!r}"
+        if re.search(r"[a-z]: (?:\.\.)?$", row.says):
+            yield f"{name}: {row.test} of {row.by}: it names a check, and not what the test has seen: {row.says!r}"
 
 
 def wide_lines(file: Path) -> Iterator[str]:
@@ -341,7 +338,8 @@ def known_to_maintainers() -> set[str]:
 
 def edits() -> dict[str, str]:
     """The text of each edit, by its path from the repository's top."""
-    return texts_of([*TOP.glob("crates/*/*/*.edit"), *TOP.glob("crates/*/edits.txt"), *TOP.glob("tests/planted/*.edit")])
+    found = ("crates/*/must-fail/*.edit", "crates/*/edits.txt", "crates/*/planted.txt", "tests/planted/*.txt")
+    return texts_of([file for pattern in found for file in TOP.glob(pattern)])
 
 
 def in_docs(names: list[str]) -> list[Path]:
@@ -383,7 +381,7 @@ CHECKS = [
     Check("this loop over a table may end before its last row", left_tables),
     Check("a public contract cites specs/inner", cited_inner),
     Check("a wrong body does not apply", stale_edits),
-    Check("planted.csv and the folders planted/ do not fit", stale_bugs),
+    Check("this planted bug does not fit", stale_bugs),
     Check("no planted bug is of this test", unplanted_tests),
 ]
 

@@ -1,16 +1,19 @@
 """For edits.py, planted.py and documents.py: where the functions of a crate are in its sources, what edits change, and which tests have to
 refuse planted bugs.
 
-An edit has the form that `rt help` describes. Those of a crate are the files in its must-fail/, and the blocks of its edits.txt, each of
-which begins with a line `edit: NAME`. They change src/ or specs/, and one of a definition in specs/ belongs to no function. The edits in
-tests/planted/ change what no crate has: a tool, the package of hosts/, a man page, completions, the script that
-makes the package for Debian, a page with blocks that a test runs, what is around the library for C, the Makefile, a C file through which
-the program makes calls, power_model.py, or needs.py.
+An edit has the form that `rt help` describes. Wrong bodies of a crate are the files in its must-fail/, and the blocks of its edits.txt,
+each of which begins with a line `edit: NAME`. They change src/ or specs/, and one of a definition in specs/ belongs to no function.
+
+A planted bug is a block of a crate's planted.txt or of a file in tests/planted/. Before the lines of its edit it has `test: BY TEST` and
+`says: TEXT`: a test that has to refuse it, in a crate of tests or in a script, and what this says then. A file in tests/planted/ has the
+name of the script that is named first, and its bugs change what no crate has: a tool, the package of hosts/, a man page, completions, the
+script that makes the package for Debian, a page with blocks that a test runs, what is around the library for C, the Makefile, a C file
+through which the program makes calls, power_model.py, or needs.py.
 """
-import csv
 import re
-from collections.abc import Iterable
+from collections.abc import Iterable, Iterator
 from dataclasses import dataclass
+from functools import cache
 from pathlib import Path
 from typing import NamedTuple
 
@@ -169,25 +172,6 @@ def between(places: set[tuple[str, int]]) -> Iterable[tuple[str, int]]:
         yield from ((file, at) for at in range(min(lines), max(lines) + 1))
 
 
-def root_of(of: str) -> str:
-    """Returns the folder, from the repository's top, in which the edits of a crate's planted/ change files, or those of tests/planted/."""
-    return "." if of == "tests" else f"crates/{of}"
-
-
-def planted_edits(top: Path) -> dict[tuple[str, str], Path]:
-    """Returns the files of all edits in a folder planted/, by their crate, or by `tests`, and their name."""
-    found = [*top.glob("crates/*/planted/*.edit"), *top.glob("tests/planted/*.edit")]
-    return {(path.parent.parent.name, path.stem): path for path in sorted(found)}
-
-
-def read_planted(top: Path, of: str, bug: str) -> Edit:
-    """Reads an edit in a folder planted/, as `read_edit` does."""
-    path = planted_edits(top).get((of, bug))
-    if path is None:
-        raise Unusable("there is no such edit")
-    return read_edit(bug, path.read_text(encoding="utf-8"), top / root_of(of), [], EDITED_BY_TESTS if of == "tests" else EDITED)
-
-
 class PlantedRow(NamedTuple):
     """A bug and the test that has to refuse it: the crate that is edited, or `tests`; the edit's name; the test's crate or script; the
     test; and what the test says when it fails for this bug, where `..` stands for what has no space in it, such as a path."""
@@ -203,22 +187,66 @@ class PlantedRow(NamedTuple):
         return bool(self.says) and re.search(r"\S*".join(map(re.escape, self.says.split(".."))), failure) is not None
 
 
+class Planted(NamedTuple):
+    """A planted bug: the text of its edit, and a row for each test that has to refuse it."""
+
+    text: str
+    rows: list[PlantedRow]
+
+
+def root_of(of: str) -> str:
+    """Returns the folder, from the repository's top, in which the planted bugs of a crate change files, or those of tests/planted/."""
+    return "." if of == "tests" else f"crates/{of}"
+
+
+def planted_of(of: str, bug: str, block: str) -> Planted:
+    """Reads the block of a planted bug."""
+    tests = [it.removeprefix("test: ").split() for it in block.split("\n") if it.startswith("test: ")]
+    says = [it.removeprefix("says: ") for it in block.split("\n") if it.startswith("says: ")]
+    if not tests or len(says) != len(tests) or any(len(it) != 2 for it in tests):
+        raise Unusable(f"{of}/{bug} has no pairs of lines 'test: BY TEST' and 'says: TEXT'")
+    text = "".join(it for it in block.splitlines(keepends=True) if not it.startswith(("test: ", "says: ")))
+    return Planted(text, [PlantedRow(of, bug, *test, said) for test, said in zip(tests, says)])
+
+
+@cache
+def planted(top: Path) -> dict[tuple[str, str], Planted]:
+    """Returns all planted bugs, by their crate, or by `tests`, and their name."""
+    found: dict[tuple[str, str], Planted] = {}
+    for file in sorted([*top.glob("crates/*/planted.txt"), *top.glob("tests/planted/*.txt")]):
+        of = "tests" if file.parent.name == "planted" else file.parent.name
+        for bug, block in blocks_of(file):
+            if (of, bug) in found:
+                raise Unusable(f"two planted bugs of {of} are named {bug}")
+            found[of, bug] = planted_of(of, bug, block)
+    return found
+
+
 def planted_rows(top: Path) -> list[PlantedRow]:
-    """Returns the rows of tests/data/planted.csv."""
-    with open(top / "tests/data/planted.csv", newline="", encoding="utf-8") as file:
-        return [PlantedRow(**it) for it in csv.DictReader(file)]
+    """Returns the rows of all planted bugs."""
+    return [row for it in planted(top).values() for row in it.rows]
+
+
+def read_planted(top: Path, of: str, bug: str) -> Edit:
+    """Reads the edit of a planted bug, as `read_edit` does."""
+    return read_edit(bug, planted(top)[of, bug].text, top / root_of(of), [], EDITED_BY_TESTS if of == "tests" else EDITED)
+
+
+def blocks_of(file: Path) -> Iterator[tuple[str, str]]:
+    """Yields the name and the text of each edit in a file of edits."""
+    before, *blocks = re.split(rf"^{NAMES}", file.read_text(encoding="utf-8"), flags=re.MULTILINE)
+    if before:
+        raise Unusable(f"{file} does not begin with '{NAMES}'")
+    for name, _, text in (it.partition("\n") for it in blocks):
+        yield name, text.rstrip("\n") + "\n"
 
 
 def edits_of(crate: Path) -> dict[str, str]:
     """Returns the texts of a crate's edits, by their names."""
     found = {path.stem: path.read_text(encoding="utf-8") for path in sorted((crate / "must-fail").glob("*.edit"))}
     file = crate / "edits.txt"
-    blocks = file.read_text(encoding="utf-8").split(NAMES) if file.is_file() else [""]
-    if blocks[0]:
-        raise Unusable(f"{file.relative_to(TOP)} does not begin with '{NAMES}'")
-    for block in blocks[1:]:
-        name, _, text = block.partition("\n")
+    for name, text in blocks_of(file) if file.is_file() else []:
         if name in found:
             raise Unusable(f"two edits of {crate.name} are named {name}")
-        found[name] = text.rstrip("\n") + "\n"
+        found[name] = text
     return found

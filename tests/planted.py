@@ -1,23 +1,24 @@
 #!/usr/bin/env python3
-"""Plants bugs, one at a time: the test that tests/data/planted.csv names for each has to fail, and to say why.
+"""Plants bugs, one at a time: the tests that are named beside each have to fail, and to say why.
 
 Usage: planted.py [--jobs N] [--unbuilt | --changed] [--note] [BUG ..]
 
-A test could fail for another reason than its bug. So the column `says` has a text that a test's output has to have when it fails: the value
-that is wrong, or what differs, as it follows from the edit. In it `..` stands for what has no space, such as a path.
+A bug is a block of lines, as edit_sources.py reads it: its name, its tests, and an edit in the form that `rt help` describes. A test could
+fail for another reason than its bug. So a line `says` has a text that the test's output has to have when it fails: the value that is wrong,
+or what differs, as it follows from the edit. In it `..` stands for what has no space, such as a path.
 
 By default all bugs are tried, and otherwise those of these names. With --unbuilt only those for which nothing is built; and with --changed,
 of these only such whose file or script has changed since all were refused, by the checksums of tests/data/planted.sums. With --note, if
-all that were tried are refused, that file gets the checksums as they are now. Each bug is an edit, in the form that `rt help` describes:
+all that were tried are refused, that file gets the checksums as they are now. Each bug is
 
-- of a crate, in crates/NAME/planted/: a bug for which there is a test, in most cases since no contract can speak of it. The test is in a
+- of a crate, in crates/NAME/planted.txt: a bug for which there is a test, in most cases since no contract can speak of it. The test is in a
   crate of tests/rattle/, and `rt try --test` runs it with all others of that crate; or it is in a script of tests/, and is run on a program
   that unproved.py makes of the edited sources. Nothing is proved.
-- in tests/planted/: of a tool, of a host, of a man page, of completions, of the script that makes the package for Debian, of a page in
-  docs/, of the Makefile, of what is around the library for C or is the plug-in with it, or of what a script makes runs and their calls go
-  wrong with, a C file or power_model.py: it then makes nothing go wrong, or in another way. Or of pass_calls.c: the program itself then has
-  the bug, in how it calls the C library. The test is in a script, and is run on the programs and the library for C that are built already,
-  or on those that PROGRAM, BENCH and CLIB in the environment name.
+- in tests/planted/, in the file of its script: of a tool, of a host, of a man page, of completions, of the script that makes the package
+  for Debian, of a page in docs/, of the Makefile, of what is around the library for C or is the plug-in with it, or of what a script makes
+  runs and their calls go wrong with, a C file or power_model.py: it then makes nothing go wrong, or in another way. Or of pass_calls.c: the
+  program itself then has the bug, in how it calls the C library. The test is run on the programs and the library for C that are built
+  already, or on those that PROGRAM, BENCH and CLIB in the environment name.
 
 The script works in temporary copies of the repository, whose sources must not change meanwhile. Without an edit, each test has to pass. A
 test may say that this machine can't test all of it. If it passes with the bug then, the bug counts as not tested.
@@ -42,7 +43,7 @@ from concurrent.futures import ThreadPoolExecutor
 from pathlib import Path
 from typing import Any
 
-from edit_sources import TOP, PlantedRow, Unusable, planted_rows, read_planted, root_of
+from edit_sources import TOP, PlantedRow, Unusable, planted, planted_rows, read_planted, root_of
 from limits import limit
 from run import NOT_TESTED
 import needs
@@ -58,7 +59,7 @@ MADE = {name: Path(os.environ.get(variable) or TOP / name) for name, variable in
 # The library for C, which a script tests, and where it is.
 CLIB = "crates/c_library/out/libc_library.a"
 MADE[CLIB] = Path(os.environ["CLIB"], "libc_library.a") if "CLIB" in os.environ else TOP / CLIB
-# The files in which bugs of tests/ are planted, and the scripts that refuse them, with their checksums when all were refused.
+# The bugs of tests/ and the tests that refuse them, with the checksums of what was read when all were refused.
 SUMS = TOP / "tests/data/planted.sums"
 # Makes the program's calls of the C library as they are, unless a bug is planted in it.
 CALLS = "tests/pass_calls.c"
@@ -236,31 +237,40 @@ class Trial:
         return how.split(":")[0]
 
 
-def sums_of(row: PlantedRow) -> dict[str, str]:
-    """The checksums of the files in which a bug of tests/ is planted, of its edit, and of the script that refuses it."""
-    files = {file for file, _ in read_planted(TOP, row.of, row.bug).lines} | {f"tests/planted/{row.bug}.edit", f"tests/{row.by}"}
-    return {it: hashlib.sha256((TOP / it).read_bytes()).hexdigest() for it in files}
+def sum_of(row: PlantedRow) -> str:
+    """The checksum of a bug of tests/: of its block, of the files in which it is planted, and of the script that refuses it."""
+    bug = planted(TOP)[row.of, row.bug]
+    files = sorted({*(file for file, _ in read_planted(TOP, row.of, row.bug).lines), f"tests/{row.by}"})
+    whole = hashlib.sha256(repr((bug.text, row)).encode())
+    for it in files:
+        whole.update(repr((it, (TOP / it).read_bytes())).encode())
+    return whole.hexdigest()
 
 
-def noted_sums() -> dict[str, str]:
-    """The checksums that SUMS has."""
-    lines = SUMS.read_text(encoding="utf-8").splitlines() if SUMS.exists() else []
-    return {file: found for found, file in (it.split("  ") for it in lines)}
+def line_of(row: PlantedRow) -> str:
+    """What SUMS has for a row whose bug was refused."""
+    return f"{sum_of(row)}  {row.bug}: {row.by} {row.test}"
+
+
+def noted() -> set[str]:
+    """The lines of SUMS."""
+    return {*SUMS.read_text(encoding="utf-8").splitlines()} if SUMS.exists() else set()
 
 
 def note() -> None:
-    """Writes the checksums as they are now, as `sha256sum` prints them."""
-    found = {file: it for row in planted_rows(TOP) if row.of == "tests" for file, it in sums_of(row).items()}
-    SUMS.write_text("".join(f"{found[file]}  {file}\n" for file in sorted(found)), encoding="utf-8")
+    """Writes the checksums as they are now."""
+    lines = sorted((line_of(row) for row in planted_rows(TOP) if row.of == "tests"), key=lambda it: it.split("  ")[1])
+    SUMS.write_text("".join(f"{it}\n" for it in lines), encoding="utf-8")
 
 
 def rows_of(given: argparse.Namespace) -> list[PlantedRow]:
-    """The rows of planted.csv that are to be tried. Exits if there is none of a name."""
+    """The rows that are to be tried. Exits if there is no bug of a name."""
     rows = planted_rows(TOP)
     if strangers := set(given.bugs) - {it.bug for it in rows}:
         sys.exit(f"planted.py: no bug {', '.join(sorted(strangers))}")
     rows = [it for it in rows if (not given.bugs or it.bug in given.bugs) and (it.of == "tests" or not given.unbuilt and not given.changed)]
-    return [it for it in rows if not sums_of(it).items() <= noted_sums().items()] if given.changed else rows
+    known = noted()
+    return [it for it in rows if line_of(it) not in known] if given.changed else rows
 
 
 def main() -> int:
