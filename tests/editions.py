@@ -13,7 +13,7 @@ EDITIONS = TOP / "docs" / "editions"
 # Of each page: the promise, and the contracts with which it begins, each by its crate, its source file, its function and those of its
 # clauses that are of the promise, or none if all are.
 PROMISES = {
-    "headline": ("An audit finds the first line at fault", [("sasl_log", "auditor.rt", "audit", "clean counts first fault")]),
+    "headline": ("An audit finds the first line at fault", [("sasl_log", "auditor.rt", "audit", "answer clean first fault many")]),
     "service": ("A code that has passed is spent", [
         ("book_keeper", "keeper.rt", "judge", "ok"), ("sasl_desk", "laws.rt", "passed_counters_are_saved", ""),
         ("sasl_desk", "laws.rt", "no_counter_passes_twice", "")]),

@@ -23,7 +23,7 @@ use Rattle.log_report.specs.RowTexts.{name_of_event, event_word, rows_text}
 use Rattle.log_report.specs.Rows.{IsReportOf}
 use Rattle.log_report.specs.declared.event_name.EventName.{EventName}
 use Rattle.log_report.specs.declared.row.Row.{Row}
-use Rattle.sasl_log.specs.AuditResults.{IsAuditResult}
+use Rattle.sasl_log.specs.Answers.{IsAnswer}
 use Rattle.sasl_log.specs.Source.{SourceFacts}
 use Rattle.sasl_log.specs.declared.auditor.count.Clean.{Clean}
 use Rattle.sasl_log.specs.declared.auditor.why.AuditFault.{AuditFault}
@@ -66,7 +66,7 @@ pub record PrintsReport {File : Type 0} (bytes_of : File → Option (List ℕ)) 
   pub answer : Result Clean AuditFault
   -- what the audit left of the log, and whether a read of it has failed
   pub next : SourceFacts
-  pub is_audit : (bytes : List ℕ) → bytes_of log_file ≡ Some bytes → IsAuditResult (accounts_in book) bytes next answer
+  pub is_audit : (bytes : List ℕ) → bytes_of log_file ≡ Some bytes → IsAnswer (accounts_in book) bytes next answer
   pub rows : List Row
   pub are_rows : AreRowsBefore book (bytes_of log_file) answer next rows
   pub had_memory : answer ≢ Err NoMemory

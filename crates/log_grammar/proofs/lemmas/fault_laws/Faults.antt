@@ -24,7 +24,7 @@ use Rattle.log_grammar.proofs.lemmas.fault_laws.Reasons.{reason_is_shown, shown_
 use Rattle.log_grammar.proofs.lemmas.fault_laws.WhatStands.{standing_lines_begin, beginning_lines_stand}
 
 -- the longest line that may follow some lines is that of their version
-longest_is_of_version : (accounts : Accounts) (before : List (List ℕ))
+pub longest_is_of_version : (accounts : Accounts) (before : List (List ℕ))
     → longest_after before ≡ (any_version accounts).max_line_len_after before
 longest_is_of_version accounts [] = refl
 longest_is_of_version accounts (first ∷ more) = refl
