@@ -17,7 +17,7 @@ PROMISES = {
     "service": ("A code that has passed is spent", [
         ("book_keeper", "keeper.rt", "judge", "ok"), ("sasl_desk", "laws.rt", "passed_counters_are_saved", ""),
         ("sasl_desk", "laws.rt", "no_counter_passes_twice", "")]),
-    "login": ("A login is accepted exactly if RFC 5802 makes it valid", [("scram_ends", "laws.rt", "accepts_exactly_valid", "")]),
+    "login": ("A login is accepted exactly if RFC 5802 makes it valid", [("scram_ends", "server.rt", "finish", "valid")]),
     "code": ("Each code has the reply that RFC 4226 and RFC 6238 give", [("otp_core", "token.rt", "attempt", "")]),
     "book": ("A text is read as a book exactly if it has a book's form", [("account_book", "book/text.rt", "read", "")]),
 }
@@ -25,6 +25,11 @@ PROMISES = {
 # What a page only names, by the words above it and its head: another page has the rest, or its reader need not know more.
 BY_CALLS = "`begin` ensures it of no calls, and each call of one call more, with the lines that it added to the log"
 ONLY_NAMED = {
+    "login": {
+        "ServerWait": "`server_first` gives it out with the challenge, and `finish` takes it",
+        "StandsForChallenged": "`server_first` ensures it of the entry, the client's message and the challenge that it has written",
+    },
+    "code": {"hmac": "login.txt"},
     "service": {
         **dict.fromkeys(["IsBookText", "Book"], "book.txt"),
         **dict.fromkeys(["IsTokenAttempt", "IsLegal", "IsCandidate", "IsPairCandidate", "TokenFields"], "code.txt"),
@@ -108,13 +113,14 @@ def definitions_in(file: Path) -> dict[str, Declaration]:
 
 @cache
 def type_of(crate: str, name: str) -> Declaration | None:
-    """A type or a trait of the code of a crate, as its source declares it."""
+    """A type or a trait of the code of a crate, as its source declares it, without attributes and without blank lines between fields."""
     for file in sorted((CRATES / crate / "src").rglob("*.rt")):
         text = file.read_text(encoding="utf-8")
         if shown := re.search(TYPE.format(name), text, re.MULTILINE):
             used = re.findall(r"^use (\w+)::(?:[\w:]*::)?(?:\{([^}]*)\}|(\w+));", text, re.MULTILINE)
             lower = {each: (f"{of}.declared.{each}", each) for of, many, one in used for each in (many or one).split(", ")}
-            return Declaration(file, re.sub(r"(?m)^ *#\[.*\n", "", shown[0]), "", lower | imports_of(text))
+            declared = re.sub(r"\n\n(?= )", "\n", re.sub(r"(?m)^ *#\[.*\n", "", shown[0]))
+            return Declaration(file, declared, "", lower | imports_of(text))
     return None
 
 
