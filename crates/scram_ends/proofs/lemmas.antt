@@ -3,6 +3,8 @@
 -- Opening: two texts open a login in at most one way. Verdicts: at most one verdict is due. Decided: some verdict is due.
 -- Servers: the challenge that a server sends opens a login. Challenges: which challenges a client answers.
 -- Written: what a server writes is within the limits. client_messages: what a client writes. HonestLogins: honest logins succeed.
+-- ReadyMacs: what is known of keys that are kept ready. Usual: messages without extensions, which are compared and not read.
+-- Stateless: the verdict on a login that is judged in one call.
 -- DueMessages: the message due makes a valid login if and only if it accepts; `ServerWait::judge` and `ServerWait::finish` cite it.
 pub mod Challenges
 pub mod client_messages
@@ -10,6 +12,9 @@ pub mod Decided
 pub mod DueMessages
 pub mod HonestLogins
 pub mod Opening
+pub mod ReadyMacs
 pub mod Servers
+pub mod Stateless
+pub mod Usual
 pub mod Verdicts
 pub mod Written

@@ -7,6 +7,8 @@ pub mod Opening
 pub mod Verdict
 pub mod Login
 pub mod Standing
+pub mod SigningKeys
+pub mod Stateless
 pub mod First
 pub mod Honest
 pub mod Client

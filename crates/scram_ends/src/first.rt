@@ -113,8 +113,8 @@ pub(crate) fn take_up(client_first: &[u8]) -> Result<TakenFirst<'_>, FirstFault>
     })
 }
 
-// Whether the flag is `n` or `y`.
-fn is_unbound(flag: &Flag<'_>) -> bool
+/// Whether the flag is `n` or `y`.
+pub(crate) fn is_unbound(flag: &Flag<'_>) -> bool
     ensures unbound { OnTrue result (IsUnbound (flag_text flag.now)) }
     ensures bound { OnFalse result ((binding : List ℕ) × (flag_text flag.now ≡ codes "p=" ++ binding)) }
 {

@@ -14,6 +14,7 @@ ghost use Rattle.scram_ends.specs.declared.recorded.RecordedFault.TheVariants.{F
 
 use crate::bytes::are_same;
 use crate::first::{FirstFault, take_up};
+use crate::kept_keys::KeptKeys;
 use crate::keys_view::KeysView;
 use crate::server::{ServerWait, wait_for};
 use mac_core::Mechanism;
@@ -67,6 +68,24 @@ impl ServerWait {
         ensures err { IfErr result (λ fault. IsRecordedFault (entry_of view.now)
             client_first.now server_first.now fault) }
     {
+        let mut kept = KeptKeys::none();
+        ServerWait::recorded_with(mechanism, view, &mut kept, client_first, server_first)
+    }
+
+    /// As `recorded`, with the same result whatever is kept. `kept` then holds the account's keys for this mechanism, and the next call
+    /// with them takes less time.
+    pub fn recorded_with(
+        mechanism: Mechanism,
+        view: &KeysView<'_>,
+        kept: &mut KeptKeys,
+        client_first: &[u8],
+        server_first: &[u8],
+    ) -> Result<ServerWait, RecordedFault>
+        ensures ok { IfOk result (λ wait. StandsForChallenged wait
+            (challenged_login (entry_of view.now) mechanism client_first.now server_first.now)) }
+        ensures err { IfErr result (λ fault. IsRecordedFault (entry_of view.now)
+            client_first.now server_first.now fault) }
+    {
         let taken = take_up(client_first)?;
         let Ok(challenge) = read_server_first(server_first) else {
             return Err(RecordedFault::NotThisChallenge);
@@ -74,7 +93,8 @@ impl ServerWait {
         if !is_challenge_to(view, taken.nonce, &challenge) {
             return Err(RecordedFault::NotThisChallenge);
         }
-        Ok(wait_for(mechanism, view, &taken, challenge.nonce, server_first))
+        let signing = kept.signing_for(mechanism, view, taken.bare, server_first);
+        Ok(wait_for(view, &taken, challenge.nonce, signing))
     }
 }
 
@@ -97,8 +117,8 @@ fn is_challenge_to(view: &KeysView<'_>, nonce: &[u8], challenge: &ServerFirst<'_
         && challenge.count == view.count
 }
 
-// Whether the nonce begins with the client's and is longer than it.
-fn extends_nonce(nonce: &[u8], client: &[u8]) -> bool
+/// Whether the nonce begins with the client's and is longer than it.
+pub(crate) fn extends_nonce(nonce: &[u8], client: &[u8]) -> bool
     ensures { IsTrue result ↔ ExtendsNonce client.now nonce.now }
 {
     nonce.len() > client.len() && nonce.starts_with(client)

@@ -116,30 +116,33 @@ pub fn server_first<A: Allocator>(
     let nonce = nonce.as_slice();
     let start = out.len();
     match write_challenge(nonce, &view.salt, view.count, out) {
-        Ok(()) => Ok(wait_for(mechanism, view, &taken, nonce, &out.as_slice()[start..])),
+        Ok(()) => {
+            let signing = signing_for(mechanism, view, taken.bare, &out.as_slice()[start..]);
+            Ok(wait_for(view, &taken, nonce, signing))
+        }
         Err(fault) => Err(FirstRefused::Write(fault)),
     }
 }
 
-/// A server that waits for the client-final message after this challenge, which has this nonce.
+/// A server that waits for the client-final message after a challenge with this nonce, and signs with these keys.
 pub(crate) fn wait_for(
-    mechanism: Mechanism,
     view: &KeysView<'_>,
     taken: &TakenFirst<'_>,
     nonce: &[u8],
-    server_first: &[u8],
+    signing: Option<Signing>,
 ) -> ServerWait
     requires nonce { length nonce.now ≤ max_nonce_len }
     requires header { length taken.now.header.now ≤ MAX_HEADER_LEN }
-    ensures { (client_first : List ℕ) (opening : Opening)
-        → IsOpening (entry_of view.now) client_first server_first.now opening → ShowsOpening taken.now nonce.now opening
-        → StandsForChallenged result (challenged_login (entry_of view.now) mechanism client_first server_first.now) }
+    ensures { (mechanism : Mechanism) (client_first server_first : List ℕ) (opening : Opening)
+        → IsOpening (entry_of view.now) client_first server_first opening → ShowsOpening taken.now nonce.now opening
+        → IsSigningFor signing mechanism (entry_of view.now).keys (auth_to_challenge opening.first server_first)
+        → StandsForChallenged result (challenged_login (entry_of view.now) mechanism client_first server_first) }
 {
     ServerWait {
         nonce: copy_of(nonce),
         header: copy_of(taken.header),
         allowed: is_allowed(view, &taken.name, &taken.authzid),
-        signing: signing_for(mechanism, view, taken.bare, server_first),
+        signing,
     }
 }
 
@@ -155,8 +158,8 @@ fn is_allowed(view: &KeysView<'_>, name: &PlainName, authzid: &Option<PlainName>
     }
 }
 
-// Whether the name is one of these.
-fn is_among(name: &[u8], names: &[PlainName]) -> bool
+/// Whether the name is one of these.
+pub(crate) fn is_among(name: &[u8], names: &[PlainName]) -> bool
     ensures { IsTrue result ↔ Contains names.now name.now }
 {
     names.iter().any(|other| other.bytes() == name)

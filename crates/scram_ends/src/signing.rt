@@ -69,6 +69,63 @@ impl Signing {
     }
 }
 
+/// The keys of an account for one mechanism, ready for logins: the blocks that HMAC makes of them (RFC 2104, section 2) are already
+/// hashed.
+#[derive(Drop)]
+pub(crate) struct ReadyKeys {
+    mechanism: Mechanism,
+    // StoredKey.
+    stored: Tag,
+    // ServerKey.
+    server: Tag,
+    // Of the empty text, under StoredKey.
+    proof_mac: ScramMac,
+    // Of the empty text, under ServerKey.
+    signature_mac: ScramMac,
+
+    ghost ready: { ∥ IsScramMac mechanism proof_mac stored.items [] × IsScramMac mechanism signature_mac server.items [] ∥₁ },
+}
+
+impl ReadyKeys {
+    ghost use Rattle.scram_ends.specs.Standing.{IsSigning};
+    ghost use Rattle.scram_ends.specs.inner.Ready.{AreOf};
+
+    /// Makes these keys ready.
+    pub(crate) fn new(mechanism: Mechanism, keys: &ScramKeys) -> ReadyKeys
+        ensures { AreOf result mechanism (keys_of keys.now) }
+    {
+        ReadyKeys {
+            mechanism,
+            stored: copy_of(keys.stored.as_slice()),
+            server: copy_of(keys.server.as_slice()),
+            proof_mac: ScramMac::new(mechanism, keys.stored.as_slice()),
+            signature_mac: ScramMac::new(mechanism, keys.server.as_slice()),
+        }
+    }
+
+    /// Whether they are these keys, for this mechanism.
+    pub(crate) fn are_of(&self, mechanism: Mechanism, keys: &ScramKeys) -> bool
+        ensures { IsTrue result ↔ AreOf self.now mechanism (keys_of keys.now) }
+    {
+        self.mechanism == mechanism
+            && are_same(self.stored.as_slice(), keys.stored.as_slice())
+            && are_same(self.server.as_slice(), keys.server.as_slice())
+    }
+
+    /// As `Signing::new` with these keys.
+    pub(crate) fn signing(&self, bare: &[u8], server_first: &[u8]) -> Signing
+        ensures { (m : Mechanism) (keys : Keys) (first : ClientFirstParts) → AreOf self.now m keys → bare.now ≡ client_first_bare first
+            → IsSigning result m keys (auth_to_challenge first server_first.now) }
+    {
+        Signing {
+            mechanism: self.mechanism,
+            stored: copy_of(self.stored.as_slice()),
+            proof_mac: with_challenge(self.proof_mac.copy(), bare, server_first),
+            signature_mac: with_challenge(self.signature_mac.copy(), bare, server_first),
+        }
+    }
+}
+
 /// A running MAC of AuthMessage up to client-final-message-without-proof.
 pub(crate) fn running_mac(
     mechanism: Mechanism,
@@ -79,7 +136,15 @@ pub(crate) fn running_mac(
     ensures { IsScramMac mechanism result key.now.items
         (bare.now ++ byte "," ∷ [] ++ server_first.now ++ byte "," ∷ []) }
 {
-    let mut mac = ScramMac::new(mechanism, key.as_slice());
+    with_challenge(ScramMac::new(mechanism, key.as_slice()), bare, server_first)
+}
+
+// The MAC of an empty text, after AuthMessage up to client-final-message-without-proof.
+fn with_challenge(mac: ScramMac, bare: &[u8], server_first: &[u8]) -> ScramMac
+    ensures { (m : Mechanism) (key : List ℕ) → IsScramMac m mac key []
+        → IsScramMac m result key (bare.now ++ byte "," ∷ [] ++ server_first.now ++ byte "," ∷ []) }
+{
+    let mut mac = mac;
     mac.add(bare);
     mac.add(b",");
     mac.add(server_first);

@@ -36,6 +36,7 @@ returns-in-Ok-write_challenge-clause-ok g c =
         is_challenge = subst (λ (n : List ℕ). IsServerFirst server_first
             (server_first_of (n ++ c.args.server_nonce.now) e.salt e.count [])) client is_challenge;
       },
-      rw slice at (c.wait_for.ensures c.args.client_first.now opens.0 (rw slice opens.1)
-          (subst (λ (n : List ℕ). ShowsOpening c.in-Ok.taken n opens.0) (sym nonce) opens.2)),
+      c.wait_for.ensures c.args.mechanism c.args.client_first.now server_first opens.0 opens.1
+          (subst (λ (n : List ℕ). ShowsOpening c.in-Ok.taken n opens.0) (sym nonce) opens.2)
+          (rw slice at (c.signing_for-signing.ensures opens.0.first opens.2.bare)),
     )

@@ -2,7 +2,7 @@ use Rattle.std.proofs.Common.{◌≡◌, ap, ◌∙◌, refl}
 use Rattle.scram_text.specs.Messages.{ClientFirstParts}
 use Rattle.scram_text.proofs.lemmas.ClientFirst.{has_one_client_first}
 use Rattle.scram_ends.specs.Opening.{Opening}
-use Rattle.scram_ends.proofs.server.ServerWait.recorded.Goals as goal
+use Rattle.scram_ends.proofs.server.ServerWait.recorded_with.Goals as goal
 
 pub returns-then-not-is_challenge_to-clause-err : goal.returns-then-not-is_challenge_to-clause-err
 returns-then-not-is_challenge_to-clause-err c =
@@ -27,5 +27,6 @@ returns-clause-ok c =
     } in
     let is_opening = c.if-not-is_challenge_to.ensures.opens c.args.client_first.now c.args.server_first.now o taken.1 taken.2.taken_up
     found.1 taken.2.nonce found.2 in
-    c.wait_for.ensures c.args.client_first.now o is_opening
+    c.wait_for.ensures c.args.mechanism c.args.client_first.now c.args.server_first.now o is_opening
     (record { header = taken.2.header; bare = taken.2.bare; name = refl; authzid = refl; nonce = found.2.nonce })
+    (c.signing_for-signing.ensures taken.0 taken.2.bare)
