@@ -22,7 +22,7 @@ use Rattle.log_report.specs.RowsBefore.{AreRowsBefore}
 use Rattle.log_report.specs.RowTexts.{name_of_event, event_word, rows_text}
 use Rattle.log_report.specs.Rows.{IsReportOf}
 use Rattle.log_report.specs.declared.event_name.EventName.{EventName}
-use Rattle.log_report.specs.declared.row.Row.{Row}
+use Rattle.log_report.specs.Row.{Row}
 use Rattle.sasl_log.specs.Answers.{IsAnswer}
 use Rattle.sasl_log.specs.Source.{SourceFacts}
 use Rattle.sasl_log.specs.declared.auditor.count.Clean.{Clean}
