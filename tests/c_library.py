@@ -218,6 +218,40 @@ STARTED = [
 ]
 
 
+def verifier_of(of: dict[str, str], password: bytes) -> str:
+    """The verifier of a password with the salt of a published exchange, as PostgreSQL spells it."""
+    salt, function = bytes.fromhex(of["salt"]), FUNCTIONS[of["mechanism"]][0]
+    stored, server = (base64_of(bytes.fromhex(it)) for it in keys_of(function, password, salt, 4096))
+    return f"{of['mechanism']}$4096:{base64_of(salt)}${stored}:{server}"
+
+
+def prepared_runs() -> Iterator[tuple[list[str], str, tuple[str, str]]]:
+    """Runs of the example of prepared keys, for each published exchange, with an account of the password pencil and one of another: the
+    words, what the clients send, and what the server prints. Of four logins in turn the first and the last are by the account's password,
+    the second is by the other, and the third is of a name without an account."""
+    passwords, wrong = [b"pencil", b"pencils"], "e=invalid-proof"
+    for of, (own, other) in itertools.product([SHA1, SHA256], itertools.permutations(passwords)):
+        nobody, salt = of["first"].replace("user", "nobody"), decoy_salt(of["mechanism"], "nobody").hex()
+        right, refused = final_for(of, of["first"], own), final_for(of, of["first"], other)
+        decoy = final_for({**of, "salt": salt}, nobody, own)
+        equal(right if own == b"pencil" else refused, (of["challenge"], of["final"], of["verdict"]))
+        turns = [(of["first"], right, 0), (of["first"], refused, 36), (nobody, decoy, 36), (of["first"], right, 0)]
+        said = "".join(f"{challenge}\n{wrong if number else verdict}\n" for _, (challenge, _, verdict), number in turns)
+        given = "".join(f"{first}\n{final}\n" for first, (_, final, _), _ in turns)
+        yield [verifier_of(of, own), of["nonce"]], given, (said, "".join(f"answer: {it}\n" for *_, it in turns))
+
+
+def prepared_example(folder: str) -> None:
+    """The example of prepared keys accepts logins by the account's password, among them those of both RFCs, and refuses others by 36: also
+    those of both RFCs, if the account has another password. It does not begin with what is no verifier."""
+    program = compiled(EXAMPLES / "prepared.c", "prepared")
+    for trial, (words, given, said) in each([*prepared_runs()]):
+        with trial:
+            equal(ran([program, *words], given), (0, *said))
+    words = [program, verifier_of(SHA256, b"pencil")[:-1], "abc"]
+    equal(ran(words), (1, "", "not loaded: 96\n"))
+
+
 def client_example(folder: str) -> None:
     """The example of a client says what both RFCs say, and what was made here with Python's hmac and hashlib, and takes only the signature
     that is due."""
@@ -303,6 +337,9 @@ def under_valgrind(folder: str) -> None:
             words = [*watched, client, it.of["mechanism"], it.name, "", it.of["first"].partition("r=")[2]]
             answer = ran(words, f"pencil\n{it.of['challenge']}\n{it.of['verdict']}\n")
             answer.given(faults="logged in as user\n")
+    for trial, (words, given, said) in each([*prepared_runs()]):
+        with trial:
+            equal(ran([*watched, compiled(EXAMPLES / "prepared.c", "prepared"), *words], given), (0, *said))
     for trial, (words, output) in each(CODE_RUNS):
         with trial:
             equal(ran([*watched, compiled(EXAMPLES / "code.c", "code"), *words]), (0, output, ""))
@@ -361,6 +398,12 @@ class Entry(ctypes.Structure):
 
     _fields_ = [("mechanism", ctypes.c_uint32), ("count", ctypes.c_uint32), ("salt_len", ctypes.c_size_t), ("key_len", ctypes.c_size_t)]
     _fields_ += [(name, ctypes.c_uint8 * 64) for name in ("salt", "stored_key", "server_key")]
+
+
+class PreparedKeys(ctypes.Structure):
+    """scramotp_prepared_keys, as its words"""
+
+    _fields_ = [("words", ctypes.c_uint32 * 32)]
 
 
 class Bytes(ctypes.Structure):
@@ -531,6 +574,53 @@ def written(name: str, room: int, *given: Any, after: tuple[Any, ...] = ()) -> t
     return call(name, *given, out, ctypes.c_size_t(room), ctypes.byref(size), *after), out.raw[:-1], size.value
 
 
+def judged(room: int, entry: Entry, *given: Any) -> tuple[int, bytes, int]:
+    """Judges a login, also with the keys prepared, which gives the same. If the entry is none, nothing is prepared, and any prepared keys
+    give the same. Returns what `written` does."""
+    found, prepared = written("server_final", room, entry, *given), PreparedKeys((7,) * 32)
+    told = call("prepare", entry, prepared)
+    equal(written("server_final_prepared", room, entry, prepared, *given), found, "with prepared keys")
+    if told != 0:
+        equal((told, [*prepared.words]), (found[0], [7] * 32), "what is prepared")
+    return found
+
+
+def names_in_c(names: list[str]) -> tuple[Any, ctypes.c_size_t]:
+    """Names to act as, and how many they are, as a call takes them."""
+    return (Bytes * len(names))(*(Bytes(it.encode(), len(it)) for it in names)) or None, ctypes.c_size_t(len(names))
+
+
+def prepared_refusals(folder: str) -> None:
+    """With prepared keys each refusal is the one that is due, also of a decoy."""
+    for trial, it in each([*refusals_of(SHA1), *refusals_of(SHA256)]):
+        with trial:
+            mechanism, (challenge, told) = FUNCTIONS[it.of["mechanism"]][1], it.output
+            entry = entry_of(mechanism, 4096, bytes.fromhex(it.of["salt"]), b"pencil")
+            if it.about == "decoy":
+                equal(call("decoy", ctypes.c_char_p(DECOY_KEY), number(mechanism), number(4096), b"nobody", entry), 0)
+            found = judged(700, entry, *names_in_c(it.act_as), it.first.encode(), challenge.encode(), it.final.encode())
+            equal(found, (int(it.said.split()[1]), told.encode().ljust(709, b"X"), len(told)), it.about)
+
+
+def other_prepared_keys(folder: str) -> None:
+    """Prepared keys of another password, of another salt, of another mechanism or of a decoy refuse a login that is valid by the entry, and
+    so do zeros, as for a wrong proof."""
+    none, refused = (None, ctypes.c_size_t(0)), (36, b"e=invalid-proof".ljust(709, b"X"), 15)
+    for trial, of in each([SHA1, SHA256]):
+        with trial:
+            mechanism, salt = FUNCTIONS[of["mechanism"]][1], bytes.fromhex(of["salt"])
+            entry, messages = entry_of(mechanism, 4096, salt, b"pencil"), [of[it].encode() for it in ("first", "challenge", "final")]
+            equal(judged(700, entry, *none, *messages), (0, of["verdict"].encode().ljust(709, b"X"), len(of["verdict"])))
+            others = [
+                entry_of(mechanism, 4096, salt, b"pencils"), entry_of(mechanism, 4096, salt[1:], b"pencil"),
+                entry_of(257 - mechanism, 4096, salt, b"pencil"), changed_entry(entry, key_len=0),
+            ]
+            for other in [None, *others]:
+                prepared = PreparedKeys()
+                equal(call("prepare", other, prepared) if other else 0, 0)
+                equal(written("server_final_prepared", 700, entry, prepared, *none, *messages), refused)
+
+
 def longest(folder: str) -> None:
     """Each message that is received may have as many bytes as the header says, here by an extension, and no more."""
     most = int(re.search(r"SCRAMOTP_MOST_RECEIVED = (\d+)", (TOP / "clib/scramotp.h").read_text())[1])
@@ -548,7 +638,7 @@ def longest(folder: str) -> None:
                 equal(len(final), most + more)
                 found = [
                     written("server_first", 700, entry, extended[0], nonce)[0],
-                    written("server_final", 700, entry, *none, first, challenge, final)[0],
+                    judged(700, entry, *none, first, challenge, final)[0],
                     written("client_final", 2000, client, b"pencil", extended[1], after=(ctypes.create_string_buffer(32),))[0],
                     call("client_check", number(mechanism), signature, extended[2]),
                 ]
@@ -566,11 +656,12 @@ def rooms(folder: str) -> None:
                 ("server_final", (entry, *none, first, challenge, final), of["verdict"].encode()),
                 ("server_final", (entry, *none, first, challenge, b""), b"e=invalid-encoding"),
             ]:
+                answered = functools.partial(written, name) if name == "server_first" else judged
                 for room in [len(text), len(text) + 1, len(text) + 500]:
                     told = 32 if text.startswith(b"e=") else 0
-                    equal(written(name, room, *given), (told, text.ljust(room + 9, b"X"), len(text)), name)
+                    equal(answered(room, *given), (told, text.ljust(room + 9, b"X"), len(text)), name)
                 for room in [0, 1, len(text) - 1]:
-                    equal(written(name, room, *given), (93, b"X" * (room + 9), 777), name)
+                    equal(answered(room, *given), (93, b"X" * (room + 9), 777), name)
 
 
 def changed_entry(entry: Entry, **fields: int) -> Entry:
@@ -595,7 +686,7 @@ def faults(folder: str) -> None:
         with trial:
             wrong = changed_entry(entry, **fields)
             equal(written("server_first", 700, wrong, b"", b""), (want, b"X" * 709, 777))
-            equal(written("server_final", 700, wrong, *none, b"", b"", b""), (want, b"X" * 709, 777))
+            equal(judged(700, wrong, *none, b"", b"", b""), (want, b"X" * 709, 777))
     for trial, (want, message, part) in each([
         (92, b"", b""), (92, first, b"a,b"), (92, first, b"a b"), (92, first, b"a" * 257), (20, b"", nonce), (21, first + b",m=x", nonce),
         (22, first.replace(b"n,,", b"p=x,,"), nonce), (23, first.replace(b"user", b"u" * 256), nonce),
@@ -608,7 +699,7 @@ def faults(folder: str) -> None:
         (31, first, b"r=rOprNGfwEbeRWgbNEkqO,s=W22ZaJ0SNY7soEsUEjb6gQ==,i=4096"),
     ]):
         with trial:
-            equal(written("server_final", 700, entry, *none, message, answer, final), (want, b"X" * 709, 777))
+            equal(judged(700, entry, *none, message, answer, final), (want, b"X" * 709, 777))
 
 
 def client_of(name: bytes = b"user", act_as: bytes = b"", nonce: bytes = b"rOprNGfwEbeRWgbNEkqO", mechanism: int = 256, least: int = 4096,
@@ -912,10 +1003,11 @@ def interface(folder: str) -> None:
     equal({*re.findall(r"\bSCRAMOTP_\w+(?= = )", declared)}, {*numbers})
 
 
-# What C calls the structures, the parameters and the types of crates/c_library, as the kit has them cross to C: a slice is a pointer and a
-# length, and an allocator is nothing.
+# What C calls the structures, the parameters and the types of crates/c_library and hmac_midstate, as the kit has them cross to C: a slice
+# is a pointer and a length, and an allocator is nothing.
 STRUCTURES = {
     "StoredEntry": "scramotp_entry", "Bytes": "scramotp_bytes", "Names": "scramotp_names", "ClientLogin": "scramotp_client",
+    "PreparedKey": "scramotp_prepared_key", "PreparedKeys": "scramotp_prepared_keys",
     "HotpToken": "scramotp_hotp_token", "TotpToken": "scramotp_totp_token", "LineNumbers": "scramotp_line", "Audited": "scramotp_audited",
 }
 TYPES = {"u8": "uint8_t", "u32": "uint32_t", "u64": "uint64_t", "i64": "int64_t", "usize": "size_t", **STRUCTURES}
@@ -945,7 +1037,8 @@ def declarations(folder: str) -> None:
     """The header declares each exported function and each structure of crates/c_library with the parameters, the fields and the types that
     it has there, in their order."""
     header = re.sub(r"\s+", " ", re.sub(r"/\*.*?\*/", "", (TOP / "clib/scramotp.h").read_text(), flags=re.S))
-    sources = "".join(it.read_text(encoding="utf-8") for it in sorted((TOP / "crates/c_library/src").glob("*.rt")))
+    files = [*sorted((TOP / "crates/c_library/src").glob("*.rt")), TOP / "crates/hmac_midstate/src/prepared.rt"]
+    sources = "".join(it.read_text(encoding="utf-8") for it in files)
     calls = re.findall(r'^pub extern "C" fn (\w+)\((.*?)\) -> u32', sources, re.M | re.S)
     want = {name: parts_in_c(of) for name, of in calls}
     equal({*want}, {row["name"] for row in rows_of(DATA / "c_library.csv") if row["kind"] == "call"})

@@ -4,6 +4,7 @@
  * Usage: c_library_fuzz SEED COUNT */
 #include "scramotp.h"
 
+#include <stdbool.h>
 #include <stdio.h>
 #include <stdlib.h>
 #include <string.h>
@@ -126,10 +127,18 @@ static void log_in(void)
     size_t others_len = below(3);
     uint32_t number = note(scramotp_server_final(&entry, others_len > 0 ? others : NULL, others_len, first.at, first.len, challenge.at,
         challenge.len, final.at, final.len, out.at, out.len, &len));
-    if ((number == SCRAMOTP_OK || SCRAMOTP_IS_REFUSAL(number)) && len > out.len)
+    bool is_told = number == SCRAMOTP_OK || SCRAMOTP_IS_REFUSAL(number);
+    if (is_told && len > out.len)
+        abort();
+    scramotp_prepared_keys prepared;
+    buffer again = {malloc(out.len), out.len};
+    if (scramotp_prepare(&entry, &prepared) == SCRAMOTP_OK
+        && (scramotp_server_final_prepared(&entry, &prepared, others_len > 0 ? others : NULL, others_len, first.at, first.len, challenge.at,
+                challenge.len, final.at, final.len, again.at, again.len, &again.len) != number
+            || (is_told && (again.len != len || memcmp(again.at, out.at, len) != 0))))
         abort();
     note(scramotp_decoy(key, below(2) ? SCRAMOTP_SHA_1 : (uint32_t)below(600), (uint32_t)below(5), name.at, name.len, &entry));
-    buffer all[] = {first, nonce, challenge, final, name, out};
+    buffer all[] = {first, nonce, challenge, final, name, out, again};
     for (size_t i = 0; i < sizeof all / sizeof *all; i++)
         free(all[i].at);
 }

@@ -4,6 +4,7 @@ pub mod Numbers
 pub mod Entries
 pub mod Buffers
 pub mod Logins
+pub mod Prepared
 pub mod Clients
 pub mod Tokens
 pub mod Verifiers

@@ -2,3 +2,5 @@
 pub mod Reports
 pub mod Verifiers
 pub mod LineDrafts
+pub mod Parts
+pub mod Prepared

@@ -1,15 +1,18 @@
 //! What a server keeps for a name and a mechanism, as C keeps it.
-ghost use Rattle.std.specs.Prelude.{◌≡◌, ◌≤◌, ℕ, take, option_map, IfSome, IfNone, IfOk, IfErr};
+ghost use Rattle.std.specs.Prelude.{◌≡◌, ◌≤◌, ℕ, take, option_map, IfSome, IfNone, IfOk, OnOk, IfErr};
 ghost use Rattle.mac_core.specs.Mechanism.{digest_len_by};
 ghost use Rattle.mac_core.specs.declared.mechanism.Mechanism.{Mechanism};
 ghost use Rattle.scram_ends.specs.Entry.{entry_of, keys_of};
 ghost use Rattle.c_library.specs.Demands.{AreMet, IsFirstFault};
 ghost use Rattle.c_library.specs.Entries.{entry_demands, entry_in, keys_in, HasSalt, HasKeyLength, IsNoMechanism};
+ghost use Rattle.c_library.specs.inner.Parts.{ArePlain};
 ghost use Rattle.c_library.specs.Numbers.{mechanism_number, fault_number};
 
+use crate::act_as::Bytes;
 use crate::fault::Fault;
+use crate::texts::Texts;
 use mac_core::{Mechanism, ScramKeys, copy_of};
-use scram_ends::KeysView;
+use scram_ends::{EntryParts, KeyBytes, KeysView};
 use scram_text::{MAX_SALT_LEN, PlainName, Salt};
 
 /// What a server keeps for a name and a mechanism: an account's salt, count and keys, or a decoy's, which has no keys.
@@ -49,20 +52,70 @@ impl StoredEntry {
         ensures value { IfOk result (λ view. entry_of view ≡ entry_in self.now act_as.now) }
         ensures fault { IfErr result (λ fault. IsFirstFault (entry_demands mechanism self.now) (fault_number fault)) }
     {
-        if self.count == 0 {
-            return Err(Fault::Count);
+        if let Err(fault) = self.check(mechanism) {
+            return Err(fault);
         }
         let Some(salt) = self.salt() else {
             return Err(Fault::Salt);
         };
-        if self.key_len != 0 && self.key_len != digest_len(mechanism) {
-            return Err(Fault::KeyLength);
-        }
         Ok(KeysView {
             salt,
             count: self.count,
             keys: self.keys(),
             act_as,
+        })
+    }
+
+    /// Whether the struct is in its form.
+    pub(crate) fn check(&self, mechanism: Mechanism) -> Result<(), Fault>
+        ensures met { OnOk result (AreMet (entry_demands mechanism self.now)) }
+        ensures fault { IfErr result (λ fault. IsFirstFault (entry_demands mechanism self.now) (fault_number fault)) }
+    {
+        if self.count == 0 {
+            return Err(Fault::Count);
+        }
+        if self.salt_len == 0 || MAX_SALT_LEN < self.salt_len {
+            return Err(Fault::Salt);
+        }
+        if self.key_len != 0 && self.key_len != digest_len(mechanism) {
+            return Err(Fault::KeyLength);
+        }
+        Ok(())
+    }
+
+    /// What a server sees, where it lies, with these other names to act as.
+    pub(crate) fn parts<'a>(
+        &'a self,
+        mechanism: Mechanism,
+        act_as: &'a [Bytes<'a>],
+    ) -> EntryParts<'a, KeyBytes<'a>, Texts<'a>>
+        requires { AreMet (entry_demands mechanism self.now) }
+        ensures mechanism { result.mechanism ≡ mechanism }
+        ensures salt { result.salt.now ≡ take self.now.salt_len self.now.salt }
+        ensures count { result.count ≡ self.now.count }
+        ensures keys { ArePlain result.keys (keys_in self.now) }
+        ensures others { result.others.list.now ≡ act_as.now }
+    {
+        EntryParts {
+            mechanism,
+            salt: &self.salt[..self.salt_len],
+            count: self.count,
+            keys: self.key_bytes(),
+            others: Texts { list: act_as },
+        }
+    }
+
+    // The bytes of the keys, or None of a decoy.
+    fn key_bytes(&self) -> Option<KeyBytes<'_>>
+        requires { self.now.key_len ≤ 64 }
+        ensures { ArePlain result (keys_in self.now) }
+    {
+        if self.key_len == 0 {
+            return None;
+        }
+        Some(KeyBytes {
+            stored: &self.stored_key[..self.key_len],
+            server: &self.server_key[..self.key_len],
         })
     }
 

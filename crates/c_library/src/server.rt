@@ -11,14 +11,14 @@ ghost use Rattle.c_library.specs.Entries.{IsNoMechanism, entry_in};
 ghost use Rattle.c_library.specs.Logins.{IsChallenged, IsJudged, first_demands, first_fits, final_demands, final_fits, login_of, texts_in};
 ghost use Rattle.c_library.specs.Numbers.{mechanism_number, due_number, fault_number};
 
-use crate::act_as::{Bytes, allowed_of, names_of};
+use crate::act_as::Bytes;
 use crate::entry::{StoredEntry, mechanism_of};
 use crate::fault::Fault;
 use crate::put::put;
 use crate::text::{Text, challenge, report};
 use mac_core::Mechanism;
-use scram_ends::{Judged, Refusal, ServerWait, first_name};
-use scram_text::{NoncePart, read_client_first};
+use scram_ends::{Judged, Refusal, judge_login, read_first};
+use scram_text::NoncePart;
 
 /// Answers a client-first message: writes the challenge to `out`, which is at most 618 bytes long, and its length to `out_len`.
 ///
@@ -74,13 +74,10 @@ fn challenge_of(
     let Some(server_nonce) = NoncePart::new(server_nonce) else {
         return Err(Fault::NoncePart);
     };
-    if let Err(fault) = first_name(client_first) {
-        return Err(Fault::First(fault));
+    match read_first(client_first) {
+        Ok(first) => Ok(challenge(first.nonce, &server_nonce, &view.salt, view.count)),
+        Err(fault) => Err(Fault::First(fault)),
     }
-    let Ok(first) = read_client_first(client_first) else {
-        unreachable!()
-    };
-    Ok(challenge(first.nonce, &server_nonce, &view.salt, view.count))
 }
 
 /// Judges a client-final message by the two messages before it, as they were received and sent: writes the server-final message to
@@ -144,19 +141,18 @@ fn judged_of(
     ensures fault { IfErr result (λ fault. IsFirstFault (final_demands mechanism entry.now client_first.now server_first.now)
         (fault_number fault)) }
 {
-    let allowed = allowed_of(client_first, act_as);
-    let view = match entry.view(mechanism, names_of(&allowed)) {
-        Ok(view) => view,
-        Err(fault) => return Err(fault),
-    };
-    match ServerWait::recorded(mechanism, &view, client_first, server_first) {
-        Ok(wait) => Ok(wait.judge(client_final)),
+    if let Err(fault) = entry.check(mechanism) {
+        return Err(fault);
+    }
+    let parts = entry.parts(mechanism, act_as);
+    match judge_login(&parts, client_first, server_first, client_final) {
+        Ok(judged) => Ok(judged),
         Err(fault) => Err(Fault::Recorded(fault)),
     }
 }
 
-// The number of a verdict: 0 accepts, 32 to 37 refuse.
-fn number_of(judged: &Judged) -> u32
+/// The number of a verdict: 0 accepts, 32 to 37 refuse.
+pub(crate) fn number_of(judged: &Judged) -> u32
     ensures { result ≡ due_number (due_of judged.now) }
 {
     match judged {

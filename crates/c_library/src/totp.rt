@@ -69,6 +69,7 @@ pub extern "C" fn scramotp_totp(
         (IsReplied (Totp (totp_fields hash secret.now token.old)) moment (one_text code.now) result
         (Totp (totp_fields hash secret.now token.new)))
         (token.new ≡ token.old) }
+    ensures same_hash { token.new.hash ≡ token.old.hash }
 {
     let Some(hash) = hash_of(token.hash) else {
         return Fault::Hash.number();
