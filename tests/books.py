@@ -243,12 +243,12 @@ def keys_before_the_lock(folder: str) -> None:
     before = processor_time()
     start_enrol(here.folder / "measured", "slow", 100000).ends(0, "enrolled slow\n")
     (here.folder / "measured").unlink()
-    # Each of the two needs some three seconds of processor time for its keys, and is stopped early in that.
-    count = int(100000 * 3 / (processor_time() - before))
-    slow = [start_enrol(path, "slow", count) for path in [here.book, new]]
-    until(lambda: all(taken(run.process.pid) > 0.1 for run in slow), "both runs should make keys")
-    for run in slow:
-        run.process.send_signal(signal.SIGSTOP)
+    # Each of the two needs some six seconds of processor time for its keys, and is stopped early in that, before the other begins.
+    count, slow = int(100000 * 6 / (processor_time() - before)), []
+    for path in [here.book, new]:
+        slow.append(start_enrol(path, "slow", count))
+        until(lambda: taken(slow[-1].process.pid) > 0.1, "the run should make keys")
+        slow[-1].process.send_signal(signal.SIGSTOP)
     try:
         here.verifies(FIRST_CODE, *PASSES)
         start_enrol(new, "quick", 1).ends(0, "enrolled quick\n")

@@ -150,7 +150,7 @@ def all_unproved() -> list[Job]:
     checks = [Job("documents.py", [sys.executable, FOLDER / "documents.py"])]
     checks.append(Job("rattle.py layout", [sys.executable, FOLDER / "rattle.py", "layout"]))
     crates = LONG_CRATES + [it for it in rattle.test_crates() if it not in LONG_CRATES]
-    runs = [Job(it, [rattle.kit() / "bin/rattle-test", "--seconds", "300", MADE / it], [f"{it} is compiled"]) for it in crates]
+    runs = [Job(it, [rattle.kit() / "bin/rattle-test", "--seconds", str(LIMIT), MADE / it], [f"{it} is compiled"]) for it in crates]
     compiled = [made(it) for it in crates]
     tests = [*scripts(MADE / "scramotp", TESTS), Job("planted.py", [sys.executable, "-u", FOLDER / "planted.py", "--changed"])]
     for job in tests:
