@@ -1,43 +1,65 @@
 #!/usr/bin/env python3
-"""editions.py: writes docs/editions/, a page for each promise with just the definitions that it reaches, in the order of reading."""
+"""editions.py: writes docs/editions/, a page for each promise with just the definitions that it reaches, in the order of reading; and in
+README.md and docs/PROMISES.md how many lines they have.
+
+A page has all that it reaches, but of what a page has that it names only a line, at its end. There stands too what is only named: types
+that contracts see as something else, and what its reader need not know.
+"""
 import re
 from collections.abc import Iterator
-from dataclasses import dataclass, field, replace
+from dataclasses import dataclass, field
 from functools import cache
 from pathlib import Path
+from typing import NamedTuple
+
+import edition_lines
 
 TOP = Path(__file__).resolve().parent.parent
 CRATES = TOP / "crates"
 EDITIONS = TOP / "docs" / "editions"
+HEAD_LINES = 3
+# The pages that name how many lines editions have.
+COUNTING = [TOP / "README.md", TOP / "docs" / "PROMISES.md"]
 
-# Of each page: the promise, and the contracts with which it begins, each by its crate, its source file, its function and those of its
-# clauses that are of the promise, or none if all are.
-PROMISES = {
-    "headline": ("An audit finds the first line at fault", [("sasl_log", "auditor.rt", "audit", "answer clean first fault many")]),
-    "service": ("A code that has passed is spent", [
-        ("book_keeper", "keeper.rt", "judge", "ok"), ("sasl_desk", "laws.rt", "passed_counters_are_saved", ""),
-        ("sasl_desk", "laws.rt", "no_counter_passes_twice", "")]),
-    "login": ("A login is accepted exactly if RFC 5802 makes it valid", [("scram_ends", "server.rt", "finish", "valid")]),
-    "code": ("Each code has the reply that RFC 4226 and RFC 6238 give", [("otp_core", "token.rt", "attempt", "")]),
-    "book": ("A text is read as a book exactly if it has a book's form", [("account_book", "book/text.rt", "read", "")]),
-}
 
-# What a page only names, by the words above it and its head: another page has the rest, or its reader need not know more.
+class Page(NamedTuple):
+    """A page: its title; with what it begins, each by its crate, its source file, its name and, of a contract, those of its clauses that
+    are of the promise, or none if all are; the pages of which it only names what they have; what else it only names, and why; and what it
+    says of the clauses that it leaves out."""
+
+    title: str
+    begins: list[tuple[str, str, str, str]]
+    names: list[str] = []
+    only_named: dict[str, str] = {}
+    of_others: str = ""
+
+
+def of_messages(*names: str) -> list[tuple[str, str, str, str]]:
+    """These definitions of messages."""
+    return [("scram_text", "Messages.antt", name, "") for name in names]
+
+
 BY_CALLS = "`begin` ensures it of no calls, and each call of one call more, with the lines that it added to the log"
-ONLY_NAMED = {
-    "login": {
+NO_LINE = "no line of a log shows it"
+FOLLOW = ("The first four say that Ok, At and TooManyLines are returned wherever they are due, unless a read failed or memory ran out. "
+    "They are proved from the two above and the law `books_are_in_range`, by which at most one of the three is due to a log. The last two "
+    "say what is returned if the source had failed before, and what is taken.")
+PAGES = {
+    "messages": Page("The messages of SCRAM (RFC 5802, section 7)", of_messages(
+        "IsClientFirst", "IsServerFirst", "IsClientFinal", "IsServerFinal", "client_first_mandatory", "server_first_mandatory",
+        "client_final_mandatory", "server_final_mandatory")),
+    "code": Page("Each code has the reply that RFC 4226 and RFC 6238 give", [("otp_core", "token.rt", "attempt", "")]),
+    "login": Page("A login is accepted exactly if RFC 5802 makes it valid", [("scram_ends", "server.rt", "finish", "valid")], [], {
         "ServerWait": "`server_first` gives it out with the challenge, and `finish` takes it",
-        "StandsForChallenged": "`server_first` ensures it of the entry, the client's message and the challenge that it has written",
-    },
-    "code": {"hmac": "login.txt"},
-    "service": {
-        **dict.fromkeys(["IsBookText", "Book"], "book.txt"),
-        **dict.fromkeys(["IsTokenAttempt", "IsLegal", "IsCandidate", "IsPairCandidate", "TokenFields"], "code.txt"),
-        **dict.fromkeys(["IsValidLogin"], "login.txt"),
-        **dict.fromkeys(["Accounts", "entry_in", "MechKeys"], "headline.txt"),
-        **dict.fromkeys(["IsDeskAfter", "IsHallAfter"], BY_CALLS),
-        **dict.fromkeys(["State", "OpenSession"], "no line of a log shows it"),
-    },
+        "StandsForChallenged": "`server_first` ensures it of the entry, the client's message and the challenge that it has written"}),
+    "book": Page("A text is read as a book exactly if it has a book's form", [("account_book", "book/text.rt", "read", "")], ["code"]),
+    "headline": Page("An audit finds the first line at fault", [
+        ("sasl_log", "auditor.rt", "audit", "answer failed"), ("account_book", "laws.rt", "books_are_in_range", "")], of_others=FOLLOW),
+    "saved": Page("A reply is kept before it is given", [("book_keeper", "keeper.rt", "judge", "ok")], ["code", "book", "headline"]),
+    "service": Page("A code that has passed is spent", [
+        ("sasl_desk", "laws.rt", "passed_counters_are_saved", ""), ("sasl_desk", "laws.rt", "no_counter_passes_twice", "")],
+        ["saved", "book", "headline", "login"], {
+        **dict.fromkeys(["IsDeskAfter", "IsHallAfter"], BY_CALLS), **dict.fromkeys(["State", "OpenSession"], NO_LINE)}),
 }
 
 Names = dict[str, tuple[str, str]]  # as a text calls it: the module, and the name there
@@ -63,23 +85,21 @@ class Declaration:
         found = re.search(rf"^ *(?:pub(?:\(crate\))? )?(?:{kinds}) (?:pub )?(\w+)", self.text, re.MULTILINE)
         return found[1] if found else ""
 
-    def only_named(self, why: str) -> "Declaration":
-        """It with only the words above it and its head, and where the rest is, or why it is not needed."""
-        lines = self.text.splitlines()
-        codes = [at for at, line in enumerate(lines) if not re.match(r" *(?:--|//)|module ", line)]
-        last = next(at for at in codes if re.search(r" (?:where|\{)$|;$", lines[at]) or re.match(rf" *{self.name()}\b.* =( |$)", lines[at]))
-        is_equation = re.match(rf" *{self.name()}\b", lines[last])
-        head = lines[:last] if is_equation else [*lines[:last], re.sub(r" (?:where|\{)$|;$", "", lines[last])]
-        mark = "//" if self.file.suffix == ".rt" else "--"
-        return replace(self, text="\n".join([*head, f"{mark} not shown here: {why}"]))
+    def is_opaque(self) -> bool:
+        """Whether it is a type of the code that contracts see as something else: one private field, or a name for a type of the kit."""
+        fields = re.findall(r"(?m)^    (?!//)(.+)$", self.text)
+        is_wrapper = self.text.partition("struct ")[1] and len(fields) <= 1 and not any(field.startswith("pub ") for field in fields)
+        return self.file.suffix == ".rt" and bool(is_wrapper or re.search(r"(?m)^pub type ", self.text))
 
     def words(self) -> list[str]:
-        """What it is made of, without the words above it and the texts in quotes. A name that it binds is not among them."""
+        """What it is made of, without the words above it and the texts in quotes. A name that it binds is not among them, nor is one of its
+        own cases or fields."""
         lines = (line for line in self.text.splitlines() if not re.match(r"\s*(--|//|#)", line))
         text = re.sub(r'"[^"]*"', "", "\n".join(lines))
+        text = re.sub(r"(?m)^    \w+(?=[,:({])|^    \w+(?= \{)", "", text) if re.match(r"(?:///.*\n)*pub.* enum ", self.text) else text
         groups = re.findall(r"[({]([\w' ]+?) :", text) + re.findall(r"λ \(?([\w']+)", text)
         bound = {name for group in groups for name in group.split()}
-        return [word for word in WORD.findall(text) if word not in bound]
+        return [word for each in WORD.findall(text) if (word := each.lstrip("&")) not in bound]
 
 
 def imports_of(text: str) -> Names:
@@ -94,6 +114,12 @@ def imports_of(text: str) -> Names:
     return found
 
 
+def used_in(text: str) -> Names:
+    """The types and traits that a text of the code uses of other crates."""
+    used = re.findall(r"^use (\w+)::(?:[\w:]*::)?(?:\{([^}]*)\}|(\w+));", text, re.MULTILINE)
+    return {each: (f"{of}.declared.{each}", each) for of, many, one in used for each in re.findall(r"\b[A-Z]\w*", many or one)}
+
+
 @cache
 def definitions_in(file: Path) -> dict[str, Declaration]:
     """The definitions of a file of specs/, by name. The names of the cases of a data type are names of it too."""
@@ -102,8 +128,8 @@ def definitions_in(file: Path) -> dict[str, Declaration]:
     found: dict[str, Declaration] = {}
     for block in re.split(r"\n\n+", text):
         lines = [line for line in block.splitlines() if not re.match(r"(pub )?(use|mod) ", line)]
-        if lines and lines[0].startswith("module "):
-            module = lines.pop(0)
+        if at := next((at for at, line in enumerate(lines, 1) if line.startswith("module ")), 0):
+            module, lines = "\n".join(lines[:at]), lines[at:]
         if head := next(filter(None, map(HEAD.match, lines)), None):
             one = Declaration(file, "\n".join(lines), module if lines[0].startswith(" ") else "", imports)
             cases = re.findall(r"^\s+((?:\w+ )+):", one.text, re.MULTILINE) if head[1] == "data" else []
@@ -117,10 +143,8 @@ def type_of(crate: str, name: str) -> Declaration | None:
     for file in sorted((CRATES / crate / "src").rglob("*.rt")):
         text = file.read_text(encoding="utf-8")
         if shown := re.search(TYPE.format(name), text, re.MULTILINE):
-            used = re.findall(r"^use (\w+)::(?:[\w:]*::)?(?:\{([^}]*)\}|(\w+));", text, re.MULTILINE)
-            lower = {each: (f"{of}.declared.{each}", each) for of, many, one in used for each in (many or one).split(", ")}
             declared = re.sub(r"\n\n(?= )", "\n", re.sub(r"(?m)^ *#\[.*\n", "", shown[0]))
-            return Declaration(file, declared, "", lower | imports_of(text))
+            return Declaration(file, declared, "", used_in(text) | imports_of(text))
     return None
 
 
@@ -152,75 +176,135 @@ def needed_by(one: Declaration) -> Iterator[Declaration]:
             yield found
 
 
-def contract(crate: str, source: str, function: str, clauses: str) -> Declaration:
-    """The contract of a function, with the words above it: of its clauses those with these names, or all. The names of others follow."""
+def contract(crate: str, source: str, function: str, clauses: str, of_others: str) -> Declaration:
+    """The contract of a function, with the words above it: of its clauses those with these names, or all, with theirs. The names of others
+    follow, and this is said of them."""
     file = CRATES / crate / "src" / source
     text = file.read_text(encoding="utf-8")
     [(head, body)] = re.findall(
         rf"^((?: *///.*\n| *#\[.*\n)+ *pub fn {function}\b[^{{]*?\n)((?: +(?:ensures|requires|//|→|×|↔|⊎|\().*\n)+)", text, re.MULTILINE
     )
-    parts = re.split(r"^(?= +(?:ensures|requires|//))", body, flags=re.MULTILINE)
-    kept = [part for part in parts if not clauses or re.match(rf"\s+(?:ensures|requires) (?:{clauses.replace(' ', '|')}) ", part)]
-    left = [found[1] for part in parts if part not in kept and (found := re.match(r"\s+(?:ensures|requires) (\w+) ", part))]
-    named = re.match(" +", body)[0] + f"// clauses that are not shown here: {', '.join(left)}" if left else ""
-    return Declaration(file, (head + "".join(kept) + named).rstrip("\n"), "", imports_of(text))
+    parts = re.findall(r"((?: +//.*\n)* +(?:ensures|requires) (\w*).*\n(?: +[→×↔⊎(].*\n)*)", body)
+    kept = [part for part, name in parts if not clauses or name in clauses.split()]
+    left = [name for _, name in parts if clauses and name not in clauses.split()]
+    if left:
+        kept.append(f"{re.match(' +', body)[0]}// clauses that are not shown here: {', '.join(left)}. {of_others}")
+    return Declaration(file, f"{head}{''.join(kept)}".rstrip(), "", used_in(text) | imports_of(text))
 
 
-def reached(begin: list[Declaration], only_named: dict[str, str]) -> list[Declaration]:
-    """These declarations and all that they need, each before what only it needs; of those that are only named what their heads need."""
-    found: dict[Declaration, None] = {}
-    left = begin[::-1]
+def begins(page: Page) -> list[Declaration]:
+    """With what a page begins."""
+    return [
+        contract(crate, file, name, clauses, page.of_others) if file.endswith(".rt")
+        else definitions_in(CRATES / crate / "specs" / file)[name]
+        for crate, file, name, clauses in page.begins
+    ]
+
+
+@cache
+def declared_on(name: str) -> tuple[list[Declaration], dict[Declaration, str]]:
+    """What the page of this name shows, each before what only it needs; and what it only names, and why or where the rest is."""
+    page = PAGES[name]
+    elsewhere = {one: f"{other}.txt" for other in reversed(page.names) for one in declared_on(other)[0]}
+    shown: dict[Declaration, None] = {}
+    named: dict[Declaration, str] = {}
+    left = begins(page)[::-1]
     while left:
         one = left.pop()
-        why = only_named.get(one.name())
-        shown = one.only_named(why) if why else one
-        if shown not in found:
-            found[shown] = None
-            left += [*needed_by(shown)][::-1]
-    return [*found]
+        if one in elsewhere:
+            named[one] = elsewhere[one]
+        elif one.name() in page.only_named or one.is_opaque():
+            named[one] = page.only_named.get(one.name(), "")
+        elif one not in shown:
+            shown[one] = None
+            left += [*needed_by(one)][::-1]
+    return [*shown], named
 
 
-def declared_on(promise: str) -> list[Declaration]:
-    """What the page of a promise declares."""
-    return reached([contract(*each) for each in PROMISES[promise][1]], ONLY_NAMED.get(promise, {}))
+def lines_of(one: Declaration) -> list[str]:
+    """How a page shows a declaration."""
+    lines = one.text.splitlines()
+    if one.file.suffix == ".antt":
+        return edition_lines.definition(lines)
+    return edition_lines.rust_type(lines) if one.name() else edition_lines.rust_contract(lines)
 
 
-def edition(promise: str) -> str:
-    """The page of a promise."""
-    title = PROMISES[promise][0]
-    found = declared_on(promise)
-    blocks, file, module = [], None, ""
+def grouped(found: list[Declaration]) -> list[list[Declaration]]:
+    """Declarations by their files: those of the highest crate first, and in a crate a file after those that need it."""
+    crates = re.findall(r"(?m)^(\w+)(?: staticlib)?:", (TOP / "crates.txt").read_text(encoding="utf-8"))
+    files: dict[tuple[Path, str], list[Declaration]] = {}
     for one in found:
-        heads = [f"==== {one.file.relative_to(CRATES)}"] if one.file != file else []
-        if one.module and (one.file, one.module) != (file, module):
-            heads.append(one.module)
-        blocks.append("\n".join([*heads, one.text]))
-        file, module = one.file, one.module
-    body = "\n\n".join(blocks) + "\n"
-    return (
-        f"{title}: {len(body.splitlines())} lines, in which {len(found)} things are declared.\n"
-        "tests/editions.py took them from the sources: first the contracts, then all that they name. Other words are the kit's.\n\n" + body
-    )
+        files.setdefault((one.file, one.module), []).append(one)
+    needs = {key: {(it.file, it.module) for one in ones for it in needed_by(one)} - {key} for key, ones in files.items()}
+    ordered: list[list[Declaration]] = []
+    left = sorted(files, key=lambda key: -crates.index(key[0].relative_to(CRATES).parts[0]))
+    while left:
+        is_first = {key: not any(key in needs[other] and other not in needs[key] for other in left) for key in left}
+        key = next(filter(is_first.get, left), left[0])
+        left.remove(key)
+        ordered.append(files[key])
+    return ordered
+
+
+@cache
+def body_of(name: str) -> list[str]:
+    """The lines of the page of this name below its head."""
+    shown, named = declared_on(name)
+    lines: list[str] = []
+    for ones in grouped(shown):
+        of_file = [*filter(None, ones[0].module.split("\n")), *(line for one in ones for line in lines_of(one))]
+        lines += edition_lines.of_file(str(ones[0].file.relative_to(CRATES)), of_file)
+    for other in PAGES[name].names:
+        there = [edition_lines.elsewhere(one.name(), one.text.splitlines()) for one, where in named.items() if where == f"{other}.txt"]
+        lines += [f"==== shown in {other}.txt", *there] if there else []
+    only = [edition_lines.only_named(one.name(), str(one.file.relative_to(CRATES)), one.text.splitlines(), why)
+            for one, why in named.items() if not why.endswith(".txt")]
+    return [*lines, *(["==== only named"] if only else []), *(line for one in only for line in one)]
+
+
+def length(name: str) -> int:
+    """How many lines the page of this name has."""
+    return len(body_of(name)) + HEAD_LINES
+
+
+def edition(name: str) -> str:
+    """The page of this name."""
+    page = PAGES[name]
+    others = ", ".join(f"{other}.txt" for other in sorted(page.names))
+    first = "the contracts" if any(file.endswith(".rt") for _, file, _, _ in page.begins) else "the messages"
+    return "\n".join([
+        f"{page.title}: {length(name)} lines{f'. What it needs of {others} is named at its end' if others else ', all in'}.",
+        f"tests/editions.py took them from the sources (==== FILE): first {first}, then all that they name. Other words are the kit's.",
+        "A definition by one equation has its arguments' types in it. Words stand beside or above what they explain. Signs: PROVING.md.",
+        *body_of(name), ""])
+
+
+def counted(text: str) -> str:
+    """The text of a page with the lines of editions that it names: of one, and of all."""
+    each = [length(name) for name in PAGES]
+    text = re.sub(r"of \d+ to \d+ lines", f"of {min(each)} to {max(each)} lines", text)
+    return re.sub(r"(editions/(\w+)\.txt\) \()\d+", lambda link: f"{link[1]}{length(link[2])}", text)
 
 
 def stale() -> Iterator[str]:
-    """The pages that are not what the sources now give."""
-    for promise in PROMISES:
-        page = EDITIONS / f"{promise}.txt"
-        if not page.exists() or page.read_text(encoding="utf-8") != edition(promise):
+    """The pages that are not what the sources now give, and those that name other numbers of lines."""
+    for name in PAGES:
+        page = EDITIONS / f"{name}.txt"
+        if not page.exists() or page.read_text(encoding="utf-8") != edition(name):
             yield f"{page.relative_to(TOP)}: python3 tests/editions.py writes it anew"
-    for promise, only_named in ONLY_NAMED.items():
-        for name, why in only_named.items():
-            other = why.removesuffix(".txt")
-            for it in [promise, *({other} & PROMISES.keys())]:
-                if name not in {one.name() for one in declared_on(it)}:
-                    yield f"{it}.txt has nothing of {name}, which {promise}.txt only names"
+        for unused in PAGES[name].only_named.keys() - {one.name() for one in declared_on(name)[1]}:
+            yield f"{name}.txt has nothing of {unused}, which it should only name"
+    for page in COUNTING:
+        if (text := page.read_text(encoding="utf-8")) != counted(text):
+            yield f"{page.relative_to(TOP)}: python3 tests/editions.py writes its numbers of lines anew"
 
 
 def main() -> None:
     EDITIONS.mkdir(exist_ok=True)
-    for promise in PROMISES:
-        (EDITIONS / f"{promise}.txt").write_text(edition(promise), encoding="utf-8")
+    for name in PAGES:
+        (EDITIONS / f"{name}.txt").write_text(edition(name), encoding="utf-8")
+    for page in COUNTING:
+        page.write_text(counted(page.read_text(encoding="utf-8")), encoding="utf-8")
 
 
 if __name__ == "__main__":
