@@ -1,5 +1,5 @@
 #!/usr/bin/env python3
-"""Times the library for C: whole logins at a server, compared with libgsasl, and codes, compared with liboath.
+"""Times the library for C: whole logins at a server, also with prepared keys, compared with libgsasl, and codes, compared with liboath.
 
 Usage: c_library.py
 
@@ -56,7 +56,9 @@ def main() -> None:
         client_key, server_key = login_keys(function, b"pencil", SALT, 4096)
         keys = [base64_of(it) for it in (hashlib.new(function, client_key).digest(), server_key)]
         words = [mechanism, base64_of(SALT), NONCE, FIRST, challenge, final, verdict, *keys]
-        told(f"{mechanism} logins", LOGINS, *ran("c_logins", "-lgsasl", str(LOGINS), *words), "libgsasl")
+        ours, prepared, theirs = ran("c_logins", "-lgsasl", str(LOGINS), *words)
+        told(f"{mechanism} logins", LOGINS, ours, theirs, "libgsasl")
+        told(f"{mechanism} logins with prepared keys", LOGINS, prepared, theirs, "libgsasl")
     if has("liboath/oath.h"):
         ours, theirs, last = ran("c_codes", "-loath", str(CODES))
         if last != code(SECRET, CODES - 1):

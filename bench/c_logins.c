@@ -1,9 +1,9 @@
-/* For c_library.py: times whole logins at a server, by libscramotp and by libgsasl in turn.
+/* For c_library.py: times whole logins at a server, by libscramotp, by it with prepared keys, and by libgsasl in turn.
  *
  * Usage: c_logins COUNT MECHANISM SALT NONCE FIRST CHALLENGE FINAL VERDICT STORED SERVER
  *
  * The password is pencil, and the count 4096. SALT, STORED and SERVER are in base64, as libgsasl has them, and NONCE is the base64 of 18
- * bytes. Each answer is compared. Prints the least seconds of processor time of both for COUNT logins, in five turns. */
+ * bytes. Each answer is compared. Prints the least seconds of processor time of each for COUNT logins, in five turns. */
 #include "scramotp.h"
 
 #include <gsasl.h>
@@ -65,7 +65,8 @@ static void by_gsasl(Gsasl *context)
     gsasl_finish(session);
 }
 
-static void by_scramotp(const scramotp_entry *entry)
+/* The keys may be prepared, or NULL. */
+static void by_scramotp(const scramotp_entry *entry, const scramotp_prepared_keys *prepared)
 {
     char challenge[SCRAMOTP_FIRST_ROOM], verdict[SCRAMOTP_FINAL_ROOM];
     size_t challenge_len, verdict_len, first_len = strlen(word[FIRST]);
@@ -73,8 +74,12 @@ static void by_scramotp(const scramotp_entry *entry)
         != SCRAMOTP_OK)
         end("libscramotp refuses the first message");
     compare(challenge, challenge_len, CHALLENGE);
-    if (scramotp_server_final(entry, NULL, 0, word[FIRST], first_len, challenge, challenge_len, word[FINAL], strlen(word[FINAL]), verdict,
-        sizeof verdict, &verdict_len) != SCRAMOTP_OK)
+    uint32_t number = prepared
+        ? scramotp_server_final_prepared(entry, prepared, NULL, 0, word[FIRST], first_len, challenge, challenge_len, word[FINAL],
+            strlen(word[FINAL]), verdict, sizeof verdict, &verdict_len)
+        : scramotp_server_final(entry, NULL, 0, word[FIRST], first_len, challenge, challenge_len, word[FINAL], strlen(word[FINAL]), verdict,
+            sizeof verdict, &verdict_len);
+    if (number != SCRAMOTP_OK)
         end("libscramotp refuses the final message");
     compare(verdict, verdict_len, VERDICT);
 }
@@ -88,6 +93,7 @@ int main(int words, char **given)
 {
     Gsasl *context;
     scramotp_entry entry;
+    scramotp_prepared_keys prepared;
     char *salt;
     size_t salt_len, nonce_len;
     word = given;
@@ -97,21 +103,26 @@ int main(int words, char **given)
         end("another word is due");
     gsasl_callback_set(context, asked);
     uint32_t mechanism = strcmp(word[MECHANISM], "SCRAM-SHA-1") == 0 ? SCRAMOTP_SHA_1 : SCRAMOTP_SHA_256;
-    if (scramotp_keys(mechanism, 4096, salt, salt_len, "pencil", 6, &entry) != SCRAMOTP_OK)
+    if (scramotp_keys(mechanism, 4096, salt, salt_len, "pencil", 6, &entry) != SCRAMOTP_OK
+        || scramotp_prepare(&entry, &prepared) != SCRAMOTP_OK)
         end("there are no keys");
-    double ours = 1e9, theirs = 1e9;
+    double ours = 1e9, by_prepared = 1e9, theirs = 1e9;
     for (int turn = 0, count = atoi(word[COUNT]); turn < 5; turn++) {
         double begun = seconds();
         for (int i = 0; i < count; i++)
-            by_scramotp(&entry);
+            by_scramotp(&entry, NULL);
+        double after_ours = seconds();
+        for (int i = 0; i < count; i++)
+            by_scramotp(&entry, &prepared);
         double between = seconds();
         for (int i = 0; i < count; i++)
             by_gsasl(context);
         double done = seconds();
-        ours = between - begun < ours ? between - begun : ours;
+        ours = after_ours - begun < ours ? after_ours - begun : ours;
+        by_prepared = between - after_ours < by_prepared ? between - after_ours : by_prepared;
         theirs = done - between < theirs ? done - between : theirs;
     }
-    printf("%f %f\n", ours, theirs);
+    printf("%f %f %f\n", ours, by_prepared, theirs);
     gsasl_free(salt);
     gsasl_free(nonce_bytes);
     gsasl_done(context);
