@@ -4,10 +4,12 @@
 The table is data/audits/cases.csv, as audit_cases.py reads it. The logs were put together by hand: sha1.log from the example of RFC 5802,
 section 5, and sha256.log from that of RFC 7677, section 3; twice.log, which docs/SECURITY.md names, and interleaved.log from sha1.log
 and codes of RFC 4226. The keys in their books were computed with Python's hashlib. Then come a login whose challenge has an extension,
-with a proof made by Python's hmac; logs of a million lines; logs that are pipes; progress shown at a terminal; files that can't be read;
-and a book that another run holds.
+with a proof made by Python's hmac; logins by two accounts and both mechanisms in turn; logs of a million lines; logs that are pipes;
+progress shown at a terminal; files that can't be read; and a book that another run holds.
 """
 import fcntl
+import hashlib
+import itertools
 import os
 import pathlib
 import re
@@ -17,7 +19,7 @@ import time
 import suite
 from audit_cases import TABLE, cases
 from checks import equal, holds
-from expected import AUDITS, SESSION_LEFT, base64_of, login_keys, proved
+from expected import AUDITS, GONE, HASHES, SESSION_LEFT, base64_of, login_keys, numbered, proved
 from processes import LIMIT_OF_LINES, Running, Terminal, until
 from suite import MOST_BYTES, PROGRAM, SALT, audit_says, each, prints
 
@@ -84,6 +86,44 @@ def other_challenges(folder: str) -> None:
             audit_says(KEYS, log, answer, what)
     log.write_text(text.replace(f"S CONT :{first}", f"S CONT :{first},x=1"))
     audit_says(KEYS, log, "line 6: outcome, due NO :e=invalid-proof", "a proof without the extension")
+
+
+def login_by(name: str, mechanism: str, keys: tuple[bytes, bytes]) -> str:
+    """The lines of a login that is accepted, from MECHS to E, with that example's nonces and these keys of the client and the server."""
+    bare, nonce = f"n={name},r=fyko+d2lbbFgONRv9qkxdawL", "r=fyko+d2lbbFgONRv9qkxdawL3rfcNHYJY1ZVvWVs7j"
+    challenge = f"{nonce},s={base64_of(bytes.fromhex(SALT))},i=4096"
+    proof, signature = map(base64_of, proved(HASHES[mechanism], *keys, f"{bare},{challenge},c=biws,{nonce}".encode()))
+    return (
+        f"S MECHS SCRAM-SHA-256 SCRAM-SHA-1\nC AUTH {mechanism} :n,,{bare}\nS CONT :{challenge}\n"
+        f"C RESP :c=biws,{nonce},p={proof}\nS OK :v={signature}\n{GONE}"
+    )
+
+
+def one_login_after_another(folder: str) -> None:
+    """Each login is judged by its own account's keys for its own mechanism, whichever login came before it."""
+    book, log, salt = pathlib.Path(folder, "book"), pathlib.Path(folder, "log"), bytes.fromhex(SALT)
+    kinds, passwords = [*itertools.product(["user", "other"], HASHES)], {"user": b"pencil", "other": b"crayon"}
+    keys = {kind: login_keys(HASHES[kind[1]], passwords[kind[0]], salt, 4096) for kind in kinds}
+    tables = [KEYS.read_text().partition("[")[0]]
+    for (name, mechanism), (client, server) in keys.items():
+        stored = hashlib.new(HASHES[mechanism], client).hexdigest()
+        tables.append(f'[accounts.{name}.{HASHES[mechanism]}]\nsalt = "{SALT}"\ncount = 4096\n')
+        tables.append(f'stored = "{stored}"\nserver = "{server.hex()}"\n')
+    book.write_text("".join(tables))
+    logins = {kind: login_by(*kind, keys[kind]) for kind in kinds}
+    published = LOGIN.read_text().removeprefix("SCRAMLOG 1\n")
+    equal(published, logins["user", "SCRAM-SHA-1"], "the login of RFC 5802's example")
+    for trial, (last, this) in each(itertools.product(kinds, repeat=2)):
+        with trial:
+            log.write_text("SCRAMLOG 1\n" + logins[last] + logins[this])
+            audit_says(book, log, "clean sessions=2 accepted=2 codes=0", last, this)
+            if last[1] == this[1] and last != this:
+                wrong = "SCRAMLOG 1\n" + logins[last] + login_by(*this, keys[last])
+                for text in (wrong, numbered(wrong)):
+                    log.write_text(text)
+                    audit_says(book, log, "line 13: outcome, due NO :e=invalid-proof", "by the last login's keys", last, this)
+    log.write_text("SCRAMLOG 1\n" + "".join(logins[kind] for pair in itertools.product(kinds, repeat=2) for kind in pair))
+    audit_says(book, log, "clean sessions=32 accepted=32 codes=0", "all of these")
 
 
 def logs_from_pipes(folder: str) -> None:

@@ -27,7 +27,7 @@ MAINTAINERS = ["ARCHITECTURE.md", "DECISIONS.md", "EMBEDDING.md", "FORMATS.md", 
 # The files besides pages whose lines may have no more columns than theirs.
 HOSTS = [file for file in sorted([*TOP.glob("hosts/*"), *TOP.glob("hosts/*/*.py")]) if file.is_file()]
 NARROWED = ["tests/*.py", "tests/*.c", "bench/*.py", "bench/*.c", "clib/*.*", "clib/examples/*", "plugins/*/*.c", "tools/*", "man/*"]
-NARROWED += ["completions/*", "packaging/*.py", "Makefile"]
+NARROWED += ["completions/*", "packaging/*.py", "Makefile", "docs/editions/*.txt"]
 NARROW = [file for pattern in NARROWED for file in sorted(TOP.glob(pattern))] + HOSTS
 
 # The kit with which everything was proved: its name, and the checksum of its logic.

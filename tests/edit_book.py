@@ -21,7 +21,7 @@ from blocks import TOOLS, book_of, does, ran, refused, stand_in, start, told, un
 from checks import equal, holds
 from processes import LIMIT_OF_LINES, Running, Terminal, sleeps, until, whole
 from suite import (
-    BOOK_OF_USER, CODES, ROOT, as_nobody, each, hotp, is_awaited, is_locked, is_root, nobody, program_on_path, seen, verify_words,
+    BOOK_OF_USER, CODES, PROGRAM, ROOT, as_nobody, each, hotp, is_awaited, is_locked, is_root, nobody, program_on_path, seen, verify_words,
 )
 
 
@@ -194,10 +194,14 @@ def an_editor_at_an_interrupt(folder: str) -> None:
 def a_book_that_may_not_be_written(folder: str) -> None:
     """A book whose owner may not write it is edited all the same, and without a question at a terminal. As root, it is nobody's here."""
     with_tools(folder, BOOK_OF_USER)
+    environment, found = program_on_path(folder), Path(folder, "bin", "scramotp")
+    # A copy, since the user `nobody` may not enter the folder of the program.
+    found.unlink()
+    shutil.copy(PROGRAM, found)
     of_nobody(folder, 0o400)
     with Terminal() as terminal:
         words = ["./edit-book", "book.toml", "sed", "s/4096/4097/"]
-        edit = Running(words, cwd=folder, env=program_on_path(folder), stdin=terminal.end, **as_nobody())
+        edit = Running(words, cwd=folder, env=environment, stdin=terminal.end, **as_nobody())
         terminal.type("n\n")
         edit.ends(0)
     equal(book_of(folder)["decoy_count"], 4097, "the count of decoys after an edit of a book that may not be written")

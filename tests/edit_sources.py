@@ -2,7 +2,8 @@
 refuse planted bugs.
 
 An edit has the form that `rt help` describes. Wrong bodies of a crate are the files in its must-fail/, and the blocks of its edits.txt,
-each of which begins with a line `edit: NAME`. They change src/ or specs/, and one of a definition in specs/ belongs to no function.
+each of which begins with a line `edit: NAME`; a line `always` below it has each run try it. They change src/ or specs/, and one of a
+definition in specs/ belongs to no function.
 
 A planted bug is a block of a crate's planted.txt or of a file in tests/planted/. Before the lines of its edit it has `test: BY TEST` and
 `says: TEXT`: a test that has to refuse it, in a crate of tests or in a script, and what this says then. A file in tests/planted/ has the
@@ -21,6 +22,8 @@ from typing import NamedTuple
 TOP = Path(__file__).resolve().parent.parent
 # What a line begins with that names the edit whose lines follow it, in the file of a crate's edits.
 NAMES = "edit: "
+# The line below it if each run tries the edit, whatever its share.
+ALWAYS = "always\n"
 # Where in a crate an edit may make changes; and where in the repository one in tests/planted/ may.
 EDITED = ("src/", "specs/")
 EDITED_BY_TESTS = ("tools/", "hosts/", "man/", "completions/", "packaging/", "docs/", "clib/", "plugins/", "Makefile", "tests/refuse_")
@@ -248,5 +251,12 @@ def edits_of(crate: Path) -> dict[str, str]:
     for name, text in blocks_of(file) if file.is_file() else []:
         if name in found:
             raise Unusable(f"two edits of {crate.name} are named {name}")
-        found[name] = text
+        found[name] = text.removeprefix(ALWAYS)
     return found
+
+
+def always_tried(crate: Path) -> set[str]:
+    """Returns the names of a crate's edits that each run tries: those of must-fail/, and those with the line `always`."""
+    file = crate / "edits.txt"
+    marked = (name for name, text in blocks_of(file) if text.startswith(ALWAYS)) if file.is_file() else ()
+    return {path.stem for path in (crate / "must-fail").glob("*.edit")}.union(marked)

@@ -23,8 +23,8 @@ Refusals are kept on this machine, as `rt ci` keeps what it proved: by the check
 this script, the edit, and the sources of its crate and of those below. A later run tries the other edits, and with --anew all. What was
 proved of each crate is kept too (proved.py), so the first check of a crate is short after an `rt ci` or another run.
 
-With --share N a run tries about one of N edits, and sees of the others only that they apply. The same checksums choose them, so the same
-sources have the same share, and a change of a crate gives another share to it and to the crates above it.
+With --share N a run tries about one of N edits, and each with the line `always`, and sees of the others only that they apply. The same
+checksums choose them, so the same sources have the same share, and a change of a crate gives another share to it and to those above it.
 
 An edit that puts a name where a clause had a constructor, and that is no constructor there, is unusable: it would fit any value.
 
@@ -48,7 +48,7 @@ from dataclasses import dataclass, field
 from functools import cache
 from pathlib import Path
 
-from edit_sources import EDITED, TOP, Edit, Function, Unusable, edits_of, functions_of, read_edit
+from edit_sources import EDITED, TOP, Edit, Function, Unusable, always_tried, edits_of, functions_of, read_edit
 from proved import begin, cache_home, keep, kept, linked
 from rattle import Uses, below, kit, over_built, read_uses, rlib_of
 
@@ -311,7 +311,8 @@ class Trial:
         what an earlier run refused, of which it tells."""
         by_ci = {it.stem for it in self.source.glob("must-fail/*.edit")} if is_after_ci else set()
         own = [it for it in edits if it.name not in by_ci]
-        chosen = [it for it in own if self.refusals.is_in_share(it, share)]
+        always = always_tried(self.source)
+        chosen = [it for it in own if it.name in always or self.refusals.is_in_share(it, share)]
         self.count.left = len(own) - len(chosen)
         known = {it.name: outcome for it in ([] if anew else chosen) if (outcome := self.refusals.kept(it))}
         for name, outcome in known.items():

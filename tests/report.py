@@ -279,13 +279,14 @@ def cut_logs(folder: str) -> None:
 
 
 def rows_as_they_come(folder: str) -> None:
-    """A row is printed as soon as its line has come, although the log goes on."""
+    """A row is printed as soon as its line has come, although the log goes on, and also if the beginning of the next line came with it."""
     running = Running([PROGRAM, "report", "--book", KEYS, "--log", "/dev/stdin"], "SCRAMLOG 1\n")
     for line in (3, 6, 9):
         running.send(f"{MECHS}\n")
         running.prints(f"{line} {line // 3} left - - - -\n", "C GONE\n")
         running.send("E\n")
-    running.ends(1, "line 11: mechs\n", text="S MECHS SCRAM-SHA-1\nC GONE\n")
+    running.prints("12 4 left - - - -\n", f"{MECHS}\nC GONE\nE\nS ME")
+    running.ends(1, "line 14: mechs\n", text="CHS SCRAM-SHA-1\nC GONE\n")
 
 
 def a_reader_that_leaves(folder: str) -> None:
