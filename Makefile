@@ -7,7 +7,7 @@ ZSH_FOLDER = share/zsh/site-functions
 # The oldest processors that the program is built for: x86-64, x86-64-v2 or x86-64-v3.
 CPU ?= x86-64-v2
 JOBS ?= $(shell nproc)
-# make test tries about one in SHARE of the wrong bodies. SHARE=1 tries all, as before a release.
+# make prove tries about one in SHARE of the wrong bodies. SHARE=1 tries all, as before a release.
 SHARE ?= 3
 PROGRAM = crates/scramotp/out/scramotp
 # What is only compiled, and not proved.
@@ -15,7 +15,7 @@ UNPROVED = out/unproved/scramotp
 # Where make time says what each part took.
 time: TIMES = out/times.csv
 # The kit with which all was last proved, as rt version prints it; README.md and docs/PROMISES.md name it too.
-KIT = rattle-kit-13f logic dac8208d650f15bf
+KIT = rattle-kit-13b logic dac8208d650f15bf
 # What the program stands on.
 LIBRARIES = mac_core otp_core scram_text scram_ends book_format account_book book_keeper book_file command_line command_words \
 	log_grammar sasl_log log_report sasl_desk command_io account_commands commands
@@ -38,7 +38,7 @@ CLIB_FOLDER = clib/out
 PLUGIN_FOLDER = plugins/cyrus/out
 # The example of RFC 5802, section 5; its password is pencil.
 EXAMPLE = keys --mechanism SCRAM-SHA-1 --salt 4125c247e43ab1e93c6dff76 --count 4096
-# The processors that make last built the program for. rt ci builds it for the default ones, and make test then removes this note.
+# The processors that make last built the program for. rt ci builds it for the default ones, and make prove then removes this note.
 BUILT_FOR := $(shell cat crates/scramotp/out/built_for 2>/dev/null || echo x86-64-v2)
 
 TIMED = $(if $(TIMES),python3 tests/timed.py --crates $(TIMES) 'rt ci')
@@ -56,7 +56,7 @@ help:
 	@echo 'make plugin     compiles the plug-in for Cyrus SASL, with that library in it'
 	@echo 'make install    copies the built program to $$(DESTDIR)$$(PREFIX)/bin,'
 	@echo '                its tools to $$(DESTDIR)$$(PREFIX)/share/scramotp, its documents to share/doc/scramotp there,'
-	@echo '                and its man pages and completions to where man, bash, zsh and fish look for them;'
+	@echo '                and its units, man pages and completions to where systemd, man, bash, zsh and fish look for them;'
 	@echo '                also the library for C and the plug-in, if they are built'
 	@echo 'make deb        makes a package for Debian of the built program, and prints its path'
 	@echo 'make setup      installs what the tests need, on Debian and as root'
