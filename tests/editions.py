@@ -42,8 +42,8 @@ def of_messages(*names: str) -> list[tuple[str, str, str, str]]:
 BY_CALLS = "`begin` ensures it of no calls, and each call of one call more, with the lines that it added to the log"
 NO_LINE = "no line of a log shows it"
 FOLLOW = ("The first four say that Ok, At and TooManyLines are returned wherever they are due, unless a read failed or memory ran out. "
-    "They are proved from the two above and the law `books_are_in_range`, by which at most one of the three is due to a log. The last two "
-    "say what is returned if the source had failed before, and what is taken.")
+    "They are proved from the two above, since at most one of the three is due to a log with a book in its ranges, as each book is by the "
+    "law `books_are_in_range`. The last two say what is returned if the source had failed before, and what is taken.")
 PAGES = {
     "messages": Page("The messages of SCRAM (RFC 5802, section 7)", of_messages(
         "IsClientFirst", "IsServerFirst", "IsClientFinal", "IsServerFinal", "client_first_mandatory", "server_first_mandatory",
