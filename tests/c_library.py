@@ -141,9 +141,13 @@ def logins_are(rows: list[Login], examples: pathlib.Path = EXAMPLES) -> None:
 
 
 def published(folder: str) -> None:
-    """The exchanges of both RFCs, byte for byte, with each example."""
+    """The exchanges of both RFCs, byte for byte, with each example; that of RFC 5802 also by the command in the head of the one in C."""
     said = "user is logged in as user"
     logins_are([Login(it["mechanism"], it, [], it["first"], it["final"], [it["challenge"], it["verdict"]], said) for it in (SHA1, SHA256)])
+    compiled(EXAMPLES / "login.c", "login")
+    head = (EXAMPLES / "login.c").read_text(encoding="utf-8").partition("*/")[0].partition("in a shell:\n")[2]
+    answer = ran(["sh", "-c", "\n".join(line.removeprefix(" * ") for line in head.splitlines())], cwd=MADE.name)
+    equal((answer.output, answer.faults, answer.status), (f"{SHA1['challenge']}\n{SHA1['verdict']}\n", f"{said}\n", 0), head)
 
 
 def no_room(folder: str) -> None:

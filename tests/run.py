@@ -70,6 +70,18 @@ class Result:
     seconds: float = 0
 
 
+async def stop(run: asyncio.subprocess.Process) -> None:
+    """Ends a process, which leads a group of its own, and all of that group: by INT, so that it ends what has left the group and removes
+    its folders, and by KILL if that takes more than a few seconds."""
+    with contextlib.suppress(ProcessLookupError, TimeoutError):
+        os.killpg(run.pid, signal.SIGINT)
+        async with asyncio.timeout(5):
+            await run.wait()
+    with contextlib.suppress(ProcessLookupError):
+        os.killpg(run.pid, signal.SIGKILL)
+    await run.wait()
+
+
 async def ended(run: asyncio.subprocess.Process) -> int | None:
     """Waits for a process, which leads a group of its own, and ends all of that group. Returns its status, or None if it was stopped."""
     try:
@@ -78,9 +90,7 @@ async def ended(run: asyncio.subprocess.Process) -> int | None:
     except TimeoutError:
         return None
     finally:
-        with contextlib.suppress(ProcessLookupError):
-            os.killpg(run.pid, signal.SIGKILL)
-        await run.wait()
+        await stop(run)
 
 
 async def ran(job: Job) -> Result:

@@ -3,7 +3,12 @@
  * Usage: login MECHANISM SALT NONCE [ACT_AS ..]
  *
  * MECHANISM is SCRAM-SHA-1 or SCRAM-SHA-256. There is one account: user, whose password is pencil, with this salt in hexadecimal. It may
- * act as the names ACT_AS. A server takes a fresh NONCE for each login, and keeps the entry of each account instead of passwords. */
+ * act as the names ACT_AS. A server takes a fresh NONCE for each login, and keeps the entry of each account instead of passwords.
+ *
+ * The login of RFC 5802, section 5, in a shell:
+ * printf '%s\n' 'n,,n=user,r=fyko+d2lbbFgONRv9qkxdawL' \
+ *     'c=biws,r=fyko+d2lbbFgONRv9qkxdawL3rfcNHYJY1ZVvWVs7j,p=v0X8v3Bz2T0CJGbJQyF0X+HI4Ts=' |
+ *     ./login SCRAM-SHA-1 4125c247e43ab1e93c6dff76 3rfcNHYJY1ZVvWVs7j */
 #include "scramotp.h"
 
 #include <stdio.h>
