@@ -90,20 +90,21 @@ def typed(title: str) -> str:
     return re.sub(r"^apt install .*\n", "", script, flags=re.M)
 
 
-def in_ten_minutes(folder: str, title: str, shown: str, before: str, after: str = "", packages: Path | None = None) -> None:
-    """What the page types for a server ends with this text of a client, a login in the journal, and a log that is clean. It is typed after
-    commands that do what the server's package does where systemd runs, in the folder of its packages if it is not installed here, and
-    before others that look at what has come of it."""
+def in_ten_minutes(folder: str, script: str, shown: list[str], before: str, after: str = "", packages: Path | None = None) -> None:
+    """What the page types for a server ends with these texts of a client, one for each login, a login in the journal, and a log that is
+    clean. It is typed after commands that do what the server's package does where systemd runs, in the folder of its packages if it is not
+    installed here, and before others that look at what has come of it."""
     with booted(folder) as machine:
         if packages:
             shutil.copytree(packages, machine.path("/srv/packages"))
         machine.does(before)
-        output = machine.does(typed("In ten minutes") + typed(title) + after, "correct horse\n")
-        holds(shown in output, "the client shows no login", output)
+        output = machine.does(typed("In ten minutes") + script + after, "correct horse\n")
+        equal(re.findall("|".join(map(re.escape, shown)), output), shown, "what clients show", output)
         machine.does(f"systemctl reload {NAME}")
         until(lambda: "event=audit" in notes_of(machine), "the log should be audited")
         holds("outcome=accepted mechanism=PLAIN name=user " in notes_of(machine), "the journal has no login", notes_of(machine))
-        holds('answer="clean sessions=1 accepted=1 codes=0"' in notes_of(machine), "the log is not clean", notes_of(machine))
+        counts = re.findall(r'answer="clean sessions=(\d+) accepted=(\d+) codes=0"', notes_of(machine))
+        equal(sum(int(accepted) for _, accepted in counts), len(shown), "the logins in clean logs", notes_of(machine))
 
 
 def notes_of(machine: Machine) -> str:
@@ -115,15 +116,23 @@ def notes_of(machine: Machine) -> str:
 SNAKEOIL = """key=/etc/ssl/private/ssl-cert-snakeoil.key
 openssl req -x509 -days 2 -newkey rsa:2048 -nodes -subj /CN=localhost -keyout $key -out /etc/ssl/certs/ssl-cert-snakeoil.pem 2>/dev/null
 """
-# What swaks shows of a login that is accepted.
+# What the packages of Postfix and of Dovecot do with it, and their start.
+POSTFIX = f"""{SNAKEOIL}postconf -e smtpd_tls_cert_file=/etc/ssl/certs/ssl-cert-snakeoil.pem smtpd_tls_key_file=$key
+postconf -e smtpd_tls_security_level=may; systemctl start postfix
+"""
+DOVECOT = f"""{SNAKEOIL}cp /etc/ssl/certs/ssl-cert-snakeoil.pem /etc/dovecot/private/dovecot.pem; cp $key /etc/dovecot/private/dovecot.key
+systemctl start dovecot
+"""
+DOVECOT_NEEDS = ["dovecot", "/usr/lib/dovecot/imap-login", "curl", "openssl"]
+# What swaks and curl show of a login that is accepted.
 LET_IN = "<~  235 "
+MAILBOX = "INBOX"
 
 
 def postfix_in_ten_minutes(folder: str) -> None:
     """What the page types for Postfix ends with a login."""
     if can_boot("Postfix in ten minutes") and has("Postfix in ten minutes", "postfix", "swaks", "openssl"):
-        before = SNAKEOIL + "postconf -e smtpd_tls_cert_file=/etc/ssl/certs/ssl-cert-snakeoil.pem smtpd_tls_key_file=$key\n"
-        in_ten_minutes(folder, "Postfix", LET_IN, before + "postconf -e smtpd_tls_security_level=may; systemctl start postfix")
+        in_ten_minutes(folder, typed("Postfix"), [LET_IN], POSTFIX)
 
 
 def exim_in_ten_minutes(folder: str) -> None:
@@ -131,14 +140,21 @@ def exim_in_ten_minutes(folder: str) -> None:
     if can_boot("Exim in ten minutes") and has("Exim in ten minutes", str(PACKAGES), "swaks"):
         dpkg = "dpkg --no-triggers --force-unsafe-io --force-depends"
         before = f"{dpkg} --purge postfix; {dpkg} --install /srv/packages/*.deb; systemctl start exim4"
-        in_ten_minutes(folder, "Exim", LET_IN, before, packages=PACKAGES)
+        in_ten_minutes(folder, typed("Exim"), [LET_IN], before, packages=PACKAGES)
 
 
 def dovecot_in_ten_minutes(folder: str) -> None:
     """What the page types for Dovecot ends with a login, and the user has a mailbox."""
-    if can_boot("Dovecot in ten minutes") and has("Dovecot in ten minutes", "dovecot", "/usr/lib/dovecot/imap-login", "curl", "openssl"):
-        links = "cp /etc/ssl/certs/ssl-cert-snakeoil.pem /etc/dovecot/private/dovecot.pem; cp $key /etc/dovecot/private/dovecot.key"
-        in_ten_minutes(folder, "Dovecot", "INBOX", f"{SNAKEOIL}{links}; systemctl start dovecot", "ls -d /srv/mail/user/mail")
+    if can_boot("Dovecot in ten minutes") and has("Dovecot in ten minutes", *DOVECOT_NEEDS):
+        in_ten_minutes(folder, typed("Dovecot"), [MAILBOX], DOVECOT, "ls -d /srv/mail/user/mail")
+
+
+def postfix_beside_dovecot(folder: str) -> None:
+    """What the page types for Postfix, and then for Dovecot beside it, ends with logins at both by one door."""
+    if can_boot("Postfix beside Dovecot") and has("Postfix beside Dovecot", "postfix", "swaks", *DOVECOT_NEEDS):
+        beside = typed("Dovecot").replace("  chroot =\n", "  chroot =\n  extra_groups = postfix\n")
+        again = PAGE.block("Postfix").splitlines()[-1]
+        in_ten_minutes(folder, typed("Postfix") + beside, [LET_IN, MAILBOX, LET_IN], POSTFIX + DOVECOT, again)
 
 
 # Makes a user who logs in by a key, and asks no more than once for a code, which a program answers.
