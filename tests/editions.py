@@ -18,8 +18,18 @@ TOP = Path(__file__).resolve().parent.parent
 CRATES = TOP / "crates"
 EDITIONS = TOP / "docs" / "editions"
 HEAD_LINES = 3
-# The pages that name how many lines editions have.
+# The pages that name how many lines editions have, and the one that explains the signs of editions and the kit's words there.
 COUNTING = [TOP / "README.md", TOP / "docs" / "PROMISES.md"]
+EXPLAINING = TOP / "docs" / "PROVING.md"
+# The words that need no explanation.
+PLAIN = {"Bool", "Option", "Result", "false", "length", "max", "not", "reverse"}
+# How many lines a page may have, so that it is read in one sitting: of these, and of any other.
+MOST = {"headline": 1000, "login": 300, "code": 200}
+MOST_OF_OTHERS = 350
+# The files whose definitions no page may show: those of private functions, and those by which a log is read line by line.
+RETRACING = re.compile(
+    r"/specs/(inner|state_machine)/|/log_grammar/specs/(Places|Sessions|LogKinds|VersionOne|VersionTwo|NumberedClasses)\.antt$"
+)
 
 
 class Page(NamedTuple):
@@ -286,14 +296,35 @@ def counted(text: str) -> str:
     return re.sub(r"(editions/(\w+)\.txt\) \()\d+", lambda link: f"{link[1]}{length(link[2])}", text)
 
 
+def words_of_the_kit(name: str) -> set[str]:
+    """The words on the page of this name that the kit defines. The types of its code have their names from Rust."""
+    imported = (one.imports[word] for one in declared_on(name)[0] for word in one.words() if re.match(r"\w", word) and word in one.imports)
+    return {there for path, there in imported if ".declared." not in path and not (CRATES / path.partition(".")[0]).is_dir()}
+
+
+def unreadable(name: str) -> Iterator[str]:
+    """Why the page of this name can't be read in one sitting by a reader who knows no code: it is long, shows what retraces the code, or
+    has words of the kit that EXPLAINING lacks."""
+    if length(name) > (most := MOST.get(name, MOST_OF_OTHERS)):
+        yield f"{name}.txt has {length(name)} lines, and may have {most}"
+    for one in declared_on(name)[0]:
+        if RETRACING.search(str(one.file)):
+            yield f"{name}.txt shows {one.name()} of {one.file.relative_to(CRATES)}, which retraces the code"
+    signs = re.search(r"(?m)^## Notation$.*?^## ", EXPLAINING.read_text(encoding="utf-8"), re.DOTALL)[0]
+    told = {word for code in re.findall(r"`([^`]+)`", signs) for word in re.findall(r"\w+", code)}
+    yield from (f"{EXPLAINING.name} does not explain {word} of {name}.txt" for word in sorted(words_of_the_kit(name) - told - PLAIN))
+
+
 def stale() -> Iterator[str]:
-    """The pages that are not what the sources now give, and those that name other numbers of lines."""
+    """The pages that are not what the sources now give, those that can't be read in one sitting, and those that name other numbers of
+    lines."""
     for name in PAGES:
         page = EDITIONS / f"{name}.txt"
         if not page.exists() or page.read_text(encoding="utf-8") != edition(name):
             yield f"{page.relative_to(TOP)}: python3 tests/editions.py writes it anew"
         for unused in PAGES[name].only_named.keys() - {one.name() for one in declared_on(name)[1]}:
             yield f"{name}.txt has nothing of {unused}, which it should only name"
+        yield from unreadable(name)
     for page in COUNTING:
         if (text := page.read_text(encoding="utf-8")) != counted(text):
             yield f"{page.relative_to(TOP)}: python3 tests/editions.py writes its numbers of lines anew"
