@@ -53,7 +53,8 @@ BY_CALLS = "`begin` ensures it of no calls, and each call of one call more, with
 NO_LINE = "no line of a log shows it"
 FOLLOW = ("The first four say that Ok, At and TooManyLines are returned wherever they are due, unless a read failed or memory ran out. "
     "They are proved from the two above, since at most one of the three is due to a log with a book in its ranges, as each book is by the "
-    "law `books_are_in_range`. The last two say what is returned if the source had failed before, and what is taken.")
+    "law `books_are_in_range` (for clean logs and faults: `each_log_has_one_answer`, `clean_logs_are_of_whole_sessions` and "
+    "`reasons_are_what_may_stand` of log_grammar). The last two say what is returned if the source had failed before, and what is taken.")
 PAGES = {
     "messages": Page("The messages of SCRAM (RFC 5802, section 7)", of_messages(
         "IsClientFirst", "IsServerFirst", "IsClientFinal", "IsServerFinal", "client_first_mandatory", "server_first_mandatory",
@@ -284,8 +285,9 @@ def edition(name: str) -> str:
     first = "the contracts" if any(file.endswith(".rt") for _, file, _, _ in page.begins) else "the messages"
     return "\n".join([
         f"{page.title}: {length(name)} lines{f'. What it needs of {others} is named at its end' if others else ', all in'}.",
-        f"tests/editions.py took them from the sources (==== FILE): first {first}, then all that they name. Other words are the kit's.",
-        "A definition by one equation has its arguments' types in it. Words stand beside or above what they explain. Signs: PROVING.md.",
+        f"tests/editions.py took them from the sources (==== FILE): first {first}, then all that they name. "
+        "Other words and signs: PROVING.md.",
+        "A definition by one equation has its arguments' types in it. Words stand beside or above what they explain.",
         *body_of(name), ""])
 
 
