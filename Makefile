@@ -41,7 +41,8 @@ EXAMPLE = keys --mechanism SCRAM-SHA-1 --salt 4125c247e43ab1e93c6dff76 --count 4
 # The processors that make last built the program for. rt ci builds it for the default ones, and make prove then removes this note.
 BUILT_FOR := $(shell cat crates/scramotp/out/built_for 2>/dev/null || echo x86-64-v2)
 
-TIMED = $(if $(TIMES),python3 tests/timed.py --crates $(TIMES) 'rt ci')
+# Below make time, what measures a step of this name.
+timed = $(if $(TIMES),python3 tests/timed.py $(2) $(TIMES) '$(1)')
 export TIMES
 
 .PHONY: help run build libraries libscramotp plugin install install_library install_plugin deb setup
@@ -170,30 +171,31 @@ setup:
 	python3 tests/needs.py --install
 
 test: needed
-	JOBS=$(JOBS) python3 tests/run.py --unproved
+	@JOBS=$(JOBS) python3 tests/run.py --unproved
 
 test-doors: needed
-	JOBS=$(JOBS) python3 tests/run.py --unproved $(DOORS)
+	@JOBS=$(JOBS) python3 tests/run.py --unproved $(DOORS)
 
 prove: this_kit
-	$(TIMED) python3 tests/proved.py rt ci
+	$(call timed,rt ci,--crates) python3 tests/proved.py rt ci
 	@rm -f crates/scramotp/out/built_for
-	python3 tests/edits.py --built --share $(SHARE)
-	python3 tests/archive.py
-	python3 tests/c_library.py $(PROGRAM)
-	python3 tests/cyrus.py $(PROGRAM)
+	$(call timed,edits.py) python3 tests/edits.py --built --share $(SHARE)
+	$(call timed,archive.py) python3 tests/archive.py
+	$(call timed,c_library.py of the proved library) python3 tests/c_library.py $(PROGRAM)
+	$(call timed,cyrus.py of the proved library) python3 tests/cyrus.py $(PROGRAM)
 
 test-all: needed build libscramotp
 	cd crates/bench && rt run -- hotp 1 12345678901234567890
 	FRESH=yes JOBS=$(JOBS) python3 tests/run.py $(PROGRAM)
 	FRESH=yes python3 tests/planted.py --jobs $(JOBS)
 
-# Each part has a line: its name, its seconds of wall time and its seconds of processor time. The last lines are those of the longest.
+# Each part has a line: its name, its seconds of wall time and its seconds of processor time. The last lines are those of the longest. Of a
+# crate's edits only the last number is there: how long their checks took, which run side by side.
 time:
 	@mkdir -p out && rm -f $(TIMES)
 	python3 tests/timed.py $(TIMES) 'make test' $(MAKE) --no-print-directory test TIMES=$(TIMES)
 	python3 tests/timed.py $(TIMES) 'make prove' $(MAKE) --no-print-directory prove TIMES=$(TIMES)
-	@sort -t, -k2 -n $(TIMES)
+	@sort -t, -k2,2n -k3,3n $(TIMES)
 
 # Measures what the scripts run of the program, which takes them longer than usual. It judges nothing.
 coverage: needed build
