@@ -2,7 +2,7 @@
 """Says what the tests need and this machine lacks, with Debian's package that has it.
 
 Usage: needs.py              the status is 1 if something is lacking
-       needs.py --install    installs it first, with apt-get, where there is one; only root can
+       needs.py --install    installs it first, but what is LARGE, with apt-get, where there is one; only root can
 
 What only a part of one test needs may lack: the packages are named, and that test then says what is not tested.
 """
@@ -28,7 +28,11 @@ FOR_PARTS |= {"/lib/systemd/systemd": "systemd", "ip": "iproute2", "nsenter": "u
 FOR_PARTS |= {"dpkg-deb": "dpkg", "lintian": "lintian", "mmdebstrap": "mmdebstrap"}
 FOR_PARTS |= {"/usr/include/sasl/saslplug.h": "libsasl2-dev", "/usr/lib/x86_64-linux-gnu/sasl2/libscram.so": "libsasl2-modules"}
 FOR_PARTS |= {"/usr/lib/x86_64-linux-gnu/sasl2/libsasldb.so": "libsasl2-modules-db", "sasl-sample-server": "sasl2-bin"}
-FOR_PARTS |= {"slapd": "slapd", "ldapwhoami": "ldap-utils", "valgrind": "valgrind", "clang": "clang"}
+FOR_PARTS |= {"slapd": "slapd", "ldapwhoami": "ldap-utils", "valgrind": "valgrind", "clang": "clang", "c++": "g++"}
+FOR_PARTS |= {"slapadd": "slapd", "saslpasswd2": "sasl2-bin", "ssh-keygen": "openssh-client"}
+# The same, of one test each, in packages of hundreds of MB.
+LARGE = {"chromium": "chromium", "go": "golang-go", "rustc": "rustc"}
+ALL = COMMANDS | FOR_PARTS | LARGE
 # Exim can't be installed beside Postfix. So it is unpacked here, with the libraries that it needs: outside the repository, in which rt
 # refuses links, and where the user as whom it runs can enter. Its packages are kept there too, for the machine of systemd.py.
 EXIM = Path(os.environ.get("EXIM") or "/var/cache/scramotp/exim")
@@ -55,13 +59,13 @@ def lacking(commands: Iterable[str]) -> list[str]:
 
 def told(command: str) -> str:
     """That a command or file is nowhere, with the packages of Debian that have it, if they are known here."""
-    packages = (COMMANDS | FOR_PARTS).get(command)
+    packages = ALL.get(command)
     return f"{command} is not installed" + (f" (apt-get install {packages})" if packages else "")
 
 
 def packages_of(commands: Iterable[str]) -> list[str]:
     """Debian's packages of those of the commands that are nowhere."""
-    return sorted({package for it in lacking(commands) for package in (COMMANDS | FOR_PARTS)[it].split()})
+    return sorted({package for it in lacking(commands) for package in ALL[it].split()})
 
 
 def install() -> None:
@@ -112,7 +116,7 @@ def main() -> int:
         faults.append(f"python3 of {'.'.join(map(str, OLDEST_PYTHON))} or newer: apt-get install python3")
     if not has_user():
         faults.append(f"a user {USER}: useradd --system {USER}")
-    if packages := packages_of(FOR_PARTS):
+    if packages := packages_of([*FOR_PARTS, *LARGE]):
         print("Parts of some tests need: apt-get install", *packages, file=sys.stderr)
     if faults:
         print("The tests need, and this machine lacks:", *faults, sep="\n  ", file=sys.stderr)
