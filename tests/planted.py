@@ -230,7 +230,9 @@ class Trial:
             else:
                 how = "refused"
         except NotTested as fault:
-            how = f"not tested: {fault}"
+            how = "not tested"
+            # run.py looks for such lines.
+            print(f"planted.py: not tested: the bug {row.of}/{row.bug} of {row.test} in {row.by}: {fault}", flush=True)
         except (Unusable, NotJudged, subprocess.TimeoutExpired) as fault:
             how = f"NOT JUDGED: {fault}"
         print(f"{row.of}/{row.bug}: {row.test} of {row.by}: {how}, {time.monotonic() - began:.0f} s", flush=True)
