@@ -6,6 +6,7 @@ A page has all that it reaches, but of what a page has that it names only a line
 that contracts see as something else, and what its reader need not know.
 """
 import re
+from collections import Counter
 from collections.abc import Iterator
 from dataclasses import dataclass, field
 from functools import cache
@@ -17,7 +18,7 @@ import edition_lines
 TOP = Path(__file__).resolve().parent.parent
 CRATES = TOP / "crates"
 EDITIONS = TOP / "docs" / "editions"
-HEAD_LINES = 3
+HEAD_LINES = 4
 # The pages that name how many lines editions have, and the one that explains the signs of editions and the kit's words there.
 COUNTING = [TOP / "README.md", TOP / "docs" / "PROMISES.md"]
 EXPLAINING = TOP / "docs" / "PROVING.md"
@@ -258,13 +259,21 @@ def grouped(found: list[Declaration]) -> list[list[Declaration]]:
 
 
 @cache
+def blocks_of(name: str) -> list[tuple[str, list[str]]]:
+    """What the page of this name shows: the lines of each file, after the name of its crate."""
+    blocks = []
+    for ones in grouped(declared_on(name)[0]):
+        of_file = [*filter(None, ones[0].module.split("\n")), *(line for one in ones for line in lines_of(one))]
+        file = ones[0].file.relative_to(CRATES)
+        blocks.append((file.parts[0], edition_lines.of_file(str(file), of_file)))
+    return blocks
+
+
+@cache
 def body_of(name: str) -> list[str]:
     """The lines of the page of this name below its head."""
-    shown, named = declared_on(name)
-    lines: list[str] = []
-    for ones in grouped(shown):
-        of_file = [*filter(None, ones[0].module.split("\n")), *(line for one in ones for line in lines_of(one))]
-        lines += edition_lines.of_file(str(ones[0].file.relative_to(CRATES)), of_file)
+    named = declared_on(name)[1]
+    lines = [line for _, block in blocks_of(name) for line in block]
     for other in PAGES[name].names:
         there = [edition_lines.elsewhere(one.name(), one.text.splitlines()) for one, where in named.items() if where == f"{other}.txt"]
         lines += [f"==== shown in {other}.txt", *there] if there else []
@@ -283,11 +292,15 @@ def edition(name: str) -> str:
     page = PAGES[name]
     others = ", ".join(f"{other}.txt" for other in sorted(page.names))
     first = "the contracts" if any(file.endswith(".rt") for _, file, _, _ in page.begins) else "the messages"
+    of_crates: Counter[str] = Counter()
+    for crate, lines in blocks_of(name):
+        of_crates[crate] += len(lines)
     return "\n".join([
         f"{page.title}: {length(name)} lines{f'. What it needs of {others} is named at its end' if others else ', all in'}.",
         f"tests/editions.py took them from the sources (==== FILE): first {first}, then all that they name. "
         "Other words and signs: PROVING.md.",
         "A definition by one equation has its arguments' types in it. Words stand beside or above what they explain.",
+        f"Lines by crate: {', '.join(f'{crate} {count}' for crate, count in of_crates.items())}.",
         *body_of(name), ""])
 
 
