@@ -61,10 +61,10 @@ def an_incident(folder: str) -> None:
 
 
 # The tags and attributes of a page.
-TAGS = set("html meta title style script main h1 h2 section p strong code dl dt dd div figure figcaption svg desc rect line text".split())
-TAGS |= set("details summary table thead tbody tr th td label input".split())
+TAGS = set("html meta title style script main h1 h2 section p strong code dl dt dd div figure figcaption svg desc rect line span".split())
+TAGS |= set("details summary table thead tbody tr th td label input output".split())
 ATTRIBUTES = set("lang charset http-equiv content name id class hidden for type autocomplete viewbox role aria-labelledby x y".split())
-ATTRIBUTES |= {"scope", "width", "height", "x1", "x2", "y1", "y2"}
+ATTRIBUTES |= {"scope", "width", "height", "x1", "x2", "y1", "y2", "preserveaspectratio"}
 
 
 def hostile_log(folder: str | Path, accounts: list[Account]) -> tuple[Path, Path]:
@@ -204,6 +204,12 @@ def a_page(folder: str) -> None:
         ["phone", "", "", "1", "1", "1", "service=imap rip=192.0.2.33"],
         ["nobody", "", "1", "", "", "", "service=imap rip=203.0.113.9"],
     ], "who was guessed at")
+    equal(page.tables["Clients that guessed most"], [
+        ["Client", "Guesses", "Accounts", "Let in", "Let in as"],
+        ["service=imap rip=203.0.113.9", "2", "2", "", ""],
+        ["service=imap rip=192.0.2.33", "2", "1", "1", "phone"],
+        [home, "1", "1", "2", "user"],
+    ], "who has guessed")
     sessions = page.tables["Sessions"][1:]
     equal([it[0] for it in sessions], [str(number) for number in range(1, 24) if number != 22], "the sessions that were decided")
     first = ["1", f"{day}10:00", "user", "", home, "SCRAM-SHA-1", "let in, code passed (2), code used before (2), wrong code"]
@@ -524,19 +530,21 @@ def long_logs(folder: str) -> None:
     holds(os.path.getsize(Path(folder, "page.html")) < 4_000_000, "the page is too long")
 
 
-def in_browser(folder: str | Path, text: str) -> str:
-    """What Chromium makes of a page with this text: its document, after its scripts have run."""
+def in_browser(folder: str | Path, text: str, script: str = "", width: int = 1280) -> str:
+    """What Chromium makes of a page with this text, in a window so wide: its document, after its scripts have run, and then this one. A
+    page that gets a script has no policy."""
     page = Path(folder, "opened.html")
+    if script:
+        text = re.sub('<meta http-equiv="Content-Security-Policy"[^>]*>', "", text).replace("</script>", f"{script}</script>")
     page.write_text(text, encoding="utf-8")
-    words = ["chromium", "--headless", "--no-sandbox", "--disable-gpu", f"--user-data-dir={folder}/chromium", "--dump-dom", page.as_uri()]
-    answer = ran(words, env={**os.environ, "HOME": str(folder)})
+    words = ["chromium", "--headless", "--no-sandbox", "--disable-gpu", f"--user-data-dir={folder}/chromium", f"--window-size={width},900"]
+    answer = ran([*words, "--dump-dom", page.as_uri()], env={**os.environ, "HOME": str(folder)})
     equal(answer.status, 0, "the status of Chromium", answer.faults)
     return answer.output
 
 
 def pages_in_a_browser(folder: str) -> None:
-    """In a browser the page's script shows the field for names, and a name leaves the rows of its sessions. Without scripts all is there
-    but the field. Hostile names make no other element."""
+    """Hostile names make no other element. Without scripts all is there but the field to find sessions, which the page's script shows."""
     if not has("how a browser takes a page", "chromium"):
         return
     page, hidden = Path(folder, "page.html"), '<p id="filter" hidden="">'
@@ -545,17 +553,74 @@ def pages_in_a_browser(folder: str) -> None:
     made = in_browser(folder, page.read_text())
     tags = Page(made).tags
     equal((sorted({*tags} - TAGS), tags.count("script")), (["body", "head"], 1), "the elements of a page with hostile names")
-    holds(hidden not in made, "the field for names is hidden, although the page's script may run")
+    holds(hidden not in made, "the field is hidden, although the page's script may run")
     page_of(folder, BOOK_OF_INCIDENT, INCIDENT)
     text = page.read_text()
     without = in_browser(folder, re.sub("; script-src '[^']*'", "", text))
-    holds(hidden in without, "the field for names is shown, although no script may run")
+    holds(hidden in without, "the field is shown, although no script may run")
     equal(Page(without).tables, Page(text).tables, "the tables without scripts")
-    typed = 'name.value = "nobody"; name.dispatchEvent(new Event("input"));'
-    open_to_all = re.sub('<meta http-equiv="Content-Security-Policy"[^>]*>', "", text)
-    found = in_browser(folder, open_to_all.replace("</script>", f"{typed}</script>"))
-    rows = found.partition('id="sessions"')[2].partition("</table>")[0]
-    equal(re.findall(r'<tr><td class="number">(\d+)</td>', rows), ["7"], "the sessions that a name leaves")
+
+
+# A script that types something, and notes which sessions are seen then, and what is said of how many they are.
+TYPES = """
+text.value = "TYPED"; text.dispatchEvent(new Event("input"));
+const seen = [...rows].filter(it => it.getClientRects().length).map(it => it.cells[0].textContent);
+document.title = `${seen.join(" ")}: ${found.textContent}`;
+"""
+
+
+def sessions_that_are_found(folder: str) -> None:
+    """What is typed leaves the sessions that have it in a name, in what is known of the client, or in what came of them: the others are not
+    seen, on a small screen either."""
+    if not has("how sessions are found on a page", "chromium"):
+        return
+    log = Path(folder, "incident.log")
+    for end in ("", ".clients"):
+        shutil.copy(f"{INCIDENT}{end}", f"{log}{end}")
+    page_of(folder, BOOK_OF_INCIDENT, log)
+    text = Path(folder, "page.html").read_text()
+    for trial, (typed, width, due) in each([
+        ("nobody", 1280, "7: 1 of 22"),
+        ("owner", 500, "11: 1 of 22"),
+        ("203.0.113.9", 500, "7 9: 2 of 22"),
+        ("Wrong Password", 1280, "9: 1 of 22"),
+        ("SCRAM-SHA-1", 1280, ": 0 of 22"),
+        ("", 500, " ".join(str(it) for it in range(1, 24) if it != 22) + ": "),
+    ]):
+        with trial:
+            equal(Page(in_browser(folder, text, TYPES.replace("TYPED", typed), width)).texts["title"][0], due, typed, width)
+
+
+# A script that makes the page so wide, which a window of Chromium is not if that is less than 500, and notes by how much what is in it is
+# wider than its place.
+MEASURES_WIDTHS = """
+document.body.style.cssText = "box-sizing: border-box; width: WIDEpx";
+const wide = [document.body, ...document.querySelectorAll(".scroll")].map(it => it.scrollWidth - it.clientWidth);
+document.title = `${document.body.clientWidth}: ${Math.max(...wide)}`;
+"""
+
+
+def widths_of_pages(folder: str) -> None:
+    """Nothing of a page is cut off at its right, however long names and clients are: on a small screen, on a large one, and on paper."""
+    if not has("how wide a page is", "chromium"):
+        return
+    for trial, kind in each(["incident", "hostile"]):
+        with trial:
+            if kind == "hostile":
+                of_log, log = hostile_log(folder, [Account(name, "SCRAM-SHA-256") for name in HOSTILE])
+                clients = [f"{number} open 2026-11-30T04:10:00Z name={it}\n" for number, it in enumerate(HOSTILE, 1)]
+            else:
+                of_log, log = BOOK_OF_INCIDENT, Path(shutil.copy(INCIDENT, folder))
+                clients = [Path(f"{INCIDENT}.clients").read_text()]
+            Path(f"{log}.clients").write_text("".join(clients))
+            page_of(folder, of_log, log)
+            text = Path(folder, "page.html").read_text()
+            # What is printed on paper of A4 is 718 points wide.
+            paper = text.replace("@media print", "@media all").replace("@media screen", "@media print")
+            for shown, width in [(text, 400), (text, 1025), (paper, 718)]:
+                script = MEASURES_WIDTHS.replace("WIDE", str(width))
+                found = Page(in_browser(folder, shown, script, max(width, 500))).texts["title"][0]
+                equal(found, f"{width}: 0", "how wide the page is, and by how much a part is too wide", kind, shown == paper)
 
 
 suite.run_all()

@@ -11,9 +11,8 @@ from scramotp_host.meanings import KINDS
 WIDTHS = [1, 5, 10, 30, 60, 300, 600, 1800, 3600, 10800, 21600, 43200, 86400, 604800, 2592000, 31536000]
 MOST_BARS = 60
 EPOCH = datetime(1970, 1, 1)
-# The picture, in points: its width, half of the height of the bars, the height of a line of text, and the least side of a bar.
-WIDE, HALF, EDGE, LEAST = 960, 90, 24, 1.5
-AXIS = EDGE + HALF
+# The picture, in points: its width, half of its height, where its axis is, and the least side of a bar.
+WIDE, AXIS, LEAST = 960, 90, 1.5
 
 
 class Bar(NamedTuple):
@@ -49,18 +48,14 @@ def bars_in_order(logins: list[str]) -> list[Bar]:
 
 
 def picture(bars: list[Bar]) -> str:
-    """The bars as an SVG, with a title and a description for those who do not see it. There is at least one login in them."""
-    step, scale = WIDE / len(bars), HALF / max(max(it.counts["in"], it.below) for it in bars)
+    """The bars as an SVG, with a title and a description for those who do not see it. There is at least one login in them. It has no
+    other text, so it may be drawn as wide and as high as there is room."""
+    step, scale = WIDE / len(bars), AXIS / max(max(it.counts["in"], it.below) for it in bars)
     shapes = "".join(shape for at, bar in enumerate(bars) for shape in shapes_of(bar, at * step + 1, max(step - 2, LEAST), scale))
-    most = {kind: max(it.counts[kind] for it in bars) for kind in KINDS}
-    told = {kind: f"{words}, at most {most[kind]} in a bar" for kind, words in KINDS.items() if most[kind]}
-    above, below = told.pop("in", "nobody let in"), "; ".join(told.values()) or "nobody refused"
-    labels = f'<text x="0" y="14">{above}</text><text x="0" y="{AXIS + HALF + 16}">{below}</text>'
-    labels += f'<text class="end" x="{WIDE}" y="14">{escape(bars[0].label)} to {escape(bars[-1].label)}</text>'
     return (
-        f'<svg viewBox="0 0 {WIDE} {2 * AXIS}" role="img" aria-labelledby="chart-title chart-text">'
+        f'<svg viewBox="0 0 {WIDE} {2 * AXIS}" preserveAspectRatio="none" role="img" aria-labelledby="chart-title chart-text">'
         f'<title id="chart-title">Logins let in and refused</title><desc id="chart-text">{escape(described(bars))}</desc>'
-        f'{shapes}<line x1="0" x2="{WIDE}" y1="{AXIS}" y2="{AXIS}"/>{labels}</svg>'
+        f'{shapes}<line x1="0" x2="{WIDE}" y1="{AXIS}" y2="{AXIS}"/></svg>'
     )
 
 

@@ -7,22 +7,30 @@ import hashlib
 import re
 from base64 import b64encode
 from collections import Counter
-from collections.abc import Iterable, Iterator
+from collections.abc import Callable, Iterable, Iterator
 from html import escape
 from typing import NamedTuple
 
-from scramotp_host.chart import bars_in_order, bars_over_time, picture
+from scramotp_host.chart import Bar, bars_in_order, bars_over_time, picture
 from scramotp_host.meanings import GUESSES, KINDS, MEANINGS, OF_CODES, UNDECIDED
 from scramotp_host.report import Answer, Session, counted, unsure
 
 # How many rows a table shows, of sessions the newest, since a browser takes long for more; and how many accounts that are guessed at.
 MOST_ROWS, MOST_GUESSED = 10000, 50
 
+# What stands before a cell of this class where a table has no room for its columns.
+LABELS = {"as": "as ", "last": "to ", "from": "from ", "how": "by ", "times": "times: ", "guesses": "guesses: ", "names": "accounts: "}
+LABELS |= {kind: f"{MEANINGS[kind].words}: " for kind in (*GUESSES, "accepted")}
+LABELS |= {f"number.{kind}": f"{words}: " for kind, words in KINDS.items()}
+# A longer word than this is broken, so that no name makes a table wider than the page.
+LONGEST_WORD = 24
+
 STYLE = """
 :root { color-scheme: light dark; --text: #1b1f24; --dim: #57606a; --back: #fff; --line: #d0d7de; --in: #0a6e4f; --out: #b3470b;
   --wait: #8a6100; --half: #d9a514; --good: #dff5e8; --bad: #fde3d8; --partial: #fff3cd; }
 @media (prefers-color-scheme: dark) { :root { --text: #e6edf3; --dim: #9aa4ae; --back: #0d1117; --line: #30363d; --in: #4cc38a;
   --out: #f0883e; --wait: #d4a72c; --half: #d4a72c; --good: #0f2e20; --bad: #3d1d10; --partial: #33280b; } }
+[hidden] { display: none; }
 body { margin: 0 auto; padding: 1.5rem; max-width: 70rem; font: 1rem/1.5 system-ui, sans-serif; color: var(--text);
   background: var(--back); }
 h1 { font-size: 1.6rem; margin: 0 0 1rem; overflow-wrap: anywhere; }
@@ -34,35 +42,51 @@ h2 { font-size: 1.2rem; margin: 2rem 0 .5rem; }
 .partial { border-color: var(--wait); background: var(--partial); }
 .totals { display: flex; flex-wrap: wrap; gap: 1rem 2.5rem; margin: 1.5rem 0 0; }
 .totals div { display: flex; flex-direction: column-reverse; }
-.totals dt, .note { color: var(--dim); }
+.totals dt, .note, .key { color: var(--dim); }
 .totals dd { margin: 0; font-size: 1.6rem; line-height: 1.2; font-variant-numeric: tabular-nums; }
 .scroll { overflow-x: auto; }
 table { border-collapse: collapse; width: 100%; font-size: .9rem; }
 th, td { padding: .3rem .75rem .3rem 0; text-align: left; vertical-align: top; border-bottom: 1px solid var(--line); }
 th { color: var(--dim); font-weight: 600; white-space: nowrap; }
-td { max-width: 22rem; overflow-wrap: break-word; }
+td { max-width: 22rem; }
+td.long { overflow-wrap: anywhere; }
 th.number, td.number { padding-right: 1.5rem; text-align: right; font-variant-numeric: tabular-nums; white-space: nowrap; }
 .time, .how { white-space: nowrap; font-variant-numeric: tabular-nums; }
 td.in { color: var(--in); }
 td.unpassed { color: var(--wait); }
 td.out { color: var(--out); }
-figure { margin: 0; overflow-x: auto; }
-svg { width: 100%; min-width: 40rem; height: auto; font-size: 13px; }
-svg .in { fill: var(--in); }
-svg .unpassed { fill: var(--half); }
-svg .out { fill: var(--out); }
-svg text { fill: var(--dim); }
-svg .end { text-anchor: end; }
-svg line { stroke: var(--dim); }
-input { font: inherit; padding: .25rem .5rem; width: 20rem; max-width: 100%; }
-@media print { body { max-width: none; padding: 0; font-size: 10pt; } #filter, details:not([open]) { display: none; }
-  thead { display: table-header-group; } tr, svg, .audit { break-inside: avoid; } }
+figure { margin: 0; }
+svg { width: 100%; height: 11rem; }
+svg .in, .key.in::before { fill: var(--in); background: var(--in); }
+svg .unpassed, .key.unpassed::before { fill: var(--half); background: var(--half); }
+svg .out, .key.out::before { fill: var(--out); background: var(--out); }
+svg line { stroke: var(--dim); vector-effect: non-scaling-stroke; }
+.keys { display: flex; flex-wrap: wrap; gap: 0 1.5rem; margin: .25rem 0; font-size: .9rem; }
+.keys:first-child { justify-content: space-between; }
+.key.in::before, .key.unpassed::before, .key.out::before { content: ""; display: inline-block; width: .75em; height: .75em;
+  margin-right: .5em; }
+input { font: inherit; padding: .25rem .5rem; width: 20rem; max-width: 100%; box-sizing: border-box; }
+@media screen and (max-width: 64rem) { body { padding: 1rem; } thead { display: none; } tr { display: block; padding: .3rem 0;
+  border-bottom: 1px solid var(--line); } td, td.number { display: inline-block; max-width: 100%; border: 0; padding: 0 .5rem 0 0; }
+  td:empty { display: none; } td:first-child { font-weight: 600; } td.said { display: block; } @BEFORE@ }
+@media print { body { max-width: none; padding: 0; font-size: 10pt; } table { font-size: 8pt; } td { max-width: none; } th, td,
+  td.number { padding-right: 6pt; } .scroll { overflow: visible; } #filter, details:not([open]) { display: none; }
+  thead { display: table-header-group; } h2 { break-after: avoid; } tr, figure, .audit { break-inside: avoid; }
+  .audit, .key { print-color-adjust: exact; } }
 """
+STYLE = STYLE.replace("@BEFORE@", " ".join(f'td.{kind}::before {{ content: "{words}"; }}' for kind, words in LABELS.items()))
 SCRIPT = """
-const name = document.getElementById("name"), rows = document.querySelectorAll("#sessions tbody tr");
+const text = document.getElementById("text"), found = document.getElementById("found");
+const rows = document.querySelectorAll("#sessions tbody tr");
 document.getElementById("filter").hidden = false;
-name.addEventListener("input", () => {
-  for (const row of rows) row.hidden = ![2, 3].some(at => row.cells[at].textContent.includes(name.value));
+text.addEventListener("input", () => {
+  const part = text.value.toLowerCase();
+  let count = 0;
+  for (const row of rows) {
+    row.hidden = ![2, 3, 4, 6].some(at => row.cells[at].textContent.toLowerCase().includes(part));
+    count += row.hidden ? 0 : 1;
+  }
+  found.textContent = part && `${count} of ${rows.length}`;
 });
 """
 
@@ -81,9 +105,10 @@ def allowed(text: str) -> str:
 
 def cell(start: str, it: Cell) -> str:
     """A cell, as an element that starts so."""
-    text = "" if it.text is None else escape(str(it.text))
-    kind = f' class="{it.kind}"' if it.kind else ""
-    return f"<{start}{kind}>{text}</{start[:2]}>"
+    text = "" if it.text is None else str(it.text)
+    kinds = it.kind + (" long" if any(len(word) > LONGEST_WORD for word in text.split()) else "")
+    kind = f' class="{kinds.strip()}"' if kinds else ""
+    return f"<{start}{kind}>{escape(text)}</{start[:2]}>"
 
 
 def table(head: list[Cell], rows: Iterable[list[Cell]], name: str = "table") -> Iterator[str]:
@@ -93,12 +118,12 @@ def table(head: list[Cell], rows: Iterable[list[Cell]], name: str = "table") -> 
     yield "</tbody></table></div>\n"
 
 
-def number(count: int) -> Cell:
-    return Cell(count or "", "number")
+def number(count: int, kind: str = "") -> Cell:
+    return Cell(count or "", f"number {kind}".rstrip())
 
 
-def when(session: Session) -> Cell:
-    return Cell(session.opened.strftime("%Y-%m-%d %H:%M:%S") if session.opened else "", "time")
+def when(session: Session, kind: str = "time") -> Cell:
+    return Cell(session.opened.strftime("%Y-%m-%d %H:%M:%S") if session.opened else "", kind)
 
 
 def page(log: str, answer: Answer, sessions: list[Session]) -> Iterator[str]:
@@ -121,6 +146,7 @@ def page(log: str, answer: Answer, sessions: list[Session]) -> Iterator[str]:
         yield from chart(sessions)
         yield from let_in(sessions)
         yield from guessed(sessions)
+        yield from guessers(sessions)
         yield from all_sessions(sessions)
         yield from meanings(sessions)
     else:
@@ -158,14 +184,24 @@ def chart(sessions: list[Session]) -> Iterator[str]:
         yield "<p>No login was decided.</p>\n"
         return
     bars = bars_over_time(timed) if timed else bars_in_order([it.kind for it in logins])
-    yield f"<h2>Logins {'over time' if timed else 'in their order'}</h2>\n<figure>{picture(bars)}"
+    above, below = keys(bars)
+    yield f"<h2>Logins {'over time' if timed else 'in their order'}</h2>\n<figure>"
+    yield f'<div class="keys">{above} <span class="key">{escape(bars[0].label)} to {escape(bars[-1].label)}</span></div>'
+    yield f'{picture(bars)}<div class="keys">{below}</div>'
     if timed and len(timed) < len(logins):
         yield f'<figcaption class="note">{len(logins) - len(timed)} of {len(logins)} logins have no time, and are not shown.</figcaption>'
     yield "</figure>\n<details><summary>The chart as a table</summary>\n"
     shown = [kind for kind in KINDS if any(it.counts[kind] for it in bars)]
     head = [Cell("From" if timed else "Logins"), *(Cell(KINDS[kind].capitalize(), "number") for kind in shown)]
-    yield from table(head, ([Cell(it.label), *(number(it.counts[kind]) for kind in shown)] for it in bars if it.counts.total()))
+    yield from table(head, ([Cell(it.label), *(number(it.counts[kind], kind) for kind in shown)] for it in bars if it.counts.total()))
     yield "</details>\n"
+
+
+def keys(bars: list[Bar]) -> tuple[str, str]:
+    """What the colours above and below the axis of a chart stand for."""
+    most = {kind: max(it.counts[kind] for it in bars) for kind in KINDS}
+    told = {kind: f'<span class="key {kind}">{KINDS[kind]}, at most {most[kind]} in a bar</span>' for kind in KINDS if most[kind]}
+    return told.pop("in", '<span class="key">nobody let in</span>'), " ".join(told.values()) or '<span class="key">nobody refused</span>'
 
 
 def let_in(sessions: list[Session]) -> Iterator[str]:
@@ -187,16 +223,24 @@ def accounts(sessions: list[Session], kind: str) -> Iterator[str]:
     found = sorted(groups.items(), key=lambda it: (it[0][0] or "", it[0][1] or ""))
     head = [Cell("Account"), Cell("Acts as"), Cell("Times", "number"), Cell("First"), Cell("Last"), Cell("From")]
     yield from table(head, (
-        [Cell(account), Cell(acts_as), number(len(of)), when(of[0]), when(of[-1]), Cell(origins(of))]
+        [Cell(account), Cell(acts_as, "as"), number(len(of), "times"), when(of[0]), when(of[-1], "time last"), Cell(origins(of), "from")]
         for (account, acts_as), of in found[:MOST_ROWS]
     ))
     yield left_out(len(found) - MOST_ROWS)
 
 
+def origin(session: Session) -> str:
+    """The client of a session without the number of its process, of which each has its own."""
+    return re.sub(r"\bpid=\d+ ?", "", session.client).rstrip()
+
+
 def origins(sessions: list[Session]) -> str:
-    """The most frequent clients of some sessions, without their process numbers, of which each has its own."""
-    clients = Counter(re.sub(r"\bpid=\d+ ?", "", it.client).rstrip() for it in sessions if it.client)
-    return ", ".join(client for client, _ in clients.most_common(3)) + (f" and {len(clients) - 3} more" if len(clients) > 3 else "")
+    """The most frequent clients of some sessions."""
+    return most_frequent(Counter(origin(it) for it in sessions if it.client))
+
+
+def most_frequent(counts: Counter[str]) -> str:
+    return ", ".join(it for it, _ in counts.most_common(3)) + (f" and {len(counts) - 3} more" if len(counts) > 3 else "")
 
 
 def left_out(count: int) -> str:
@@ -204,41 +248,68 @@ def left_out(count: int) -> str:
     return f'<p class="note">{count} more are not shown.</p>\n' if count > 0 else ""
 
 
+def guesses_in(session: Session) -> int:
+    """How many guesses at its account a session is."""
+    return (session.outcome in GUESSES) + sum(session.codes.get(kind, 0) for kind in GUESSES)
+
+
+def grouped(sessions: list[Session], key: Callable[[Session], str | None]) -> list[tuple[str | None, list[Session]]]:
+    """The sessions with a guess by this key, those with the most guesses first, and with them all others that have the same key."""
+    counts, groups = Counter[str | None](), dict[str | None, list[Session]]()
+    for session in sessions:
+        groups.setdefault(key(session), []).append(session)
+        counts[key(session)] += guesses_in(session)
+    return [(it, groups[it]) for it, count in counts.most_common() if count]
+
+
 def guessed(sessions: list[Session]) -> Iterator[str]:
     """The accounts that are most guessed at, how often they were let in, and from where the guesses came."""
-    counts, guesses = dict[str | None, Counter[str]](), dict[str | None, list[Session]]()
-    for session in sessions:
-        of = counts.setdefault(session.account, Counter())
-        of[session.outcome] += 1
-        of.update(session.codes)
-        if any(kind in (session.outcome, *session.codes) for kind in GUESSES):
-            guesses.setdefault(session.account, []).append(session)
     yield "<h2>Accounts most guessed at</h2>\n"
-    if not guesses:
+    found = grouped(sessions, lambda it: it.account)
+    if not found:
         yield "<p>None: no password and no code was wrong.</p>\n"
         return
     yield '<p class="note">Counted are wrong passwords, names without an account, wrong codes, and codes at a locked token, right or '
     yield "wrong, but no codes that were used before.</p>\n"
-    found = sorted(guesses, key=lambda name: -sum(counts[name][kind] for kind in GUESSES))
-    shown = (*GUESSES, "accepted")
+    rows = [(name, of, counted(of)) for name, of in found[:MOST_GUESSED]]
+    shown = [kind for kind in (*GUESSES, "accepted") if any(counts[kind] for *_, counts in rows)]
     head = [Cell("Account"), *(Cell(MEANINGS[kind].words.capitalize(), "number") for kind in shown), Cell("Guessed at from")]
     yield from table(head, (
-        [Cell(name), *(number(counts[name][kind]) for kind in shown), Cell(origins(guesses[name]))] for name in found[:MOST_GUESSED]
+        [Cell(name), *(number(counts[kind], kind) for kind in shown), Cell(origins([it for it in of if guesses_in(it)]), "from")]
+        for name, of, counts in rows
+    ))
+    yield left_out(len(found) - MOST_GUESSED)
+
+
+def guessers(sessions: list[Session]) -> Iterator[str]:
+    """The clients that guessed most, at how many accounts, and whether they were let in, and as whom."""
+    found = grouped([it for it in sessions if it.client], origin)
+    if not found:
+        return
+    yield "<h2>Clients that guessed most</h2>\n"
+    head = [Cell("Client"), Cell("Guesses", "number"), Cell("Accounts", "number"), Cell("Let in", "number"), Cell("Let in as")]
+    yield from table(head, (
+        [
+            Cell(client), number(sum(map(guesses_in, of)), "guesses"), number(len({it.account for it in of if guesses_in(it)}), "names"),
+            number(names.total(), "accepted"), Cell(most_frequent(names), "as"),
+        ]
+        for client, of in found[:MOST_GUESSED] for names in [Counter(it.account or "" for it in of if it.kind == "in")]
     ))
     yield left_out(len(found) - MOST_GUESSED)
 
 
 def all_sessions(sessions: list[Session]) -> Iterator[str]:
-    """The sessions, with a field to find a name, which appears only if scripts run."""
+    """The sessions, with a field to find some of them, which appears only if scripts run."""
     yield "<h2>Sessions</h2>\n"
     if len(sessions) > MOST_ROWS:
         yield f'<p class="note">These are the newest {MOST_ROWS} of {len(sessions)}. log-report --csv has all.</p>\n'
-    yield '<p id="filter" hidden><label for="name">Only names with</label> <input id="name" type="search" autocomplete="off"></p>\n'
+    yield '<p id="filter" hidden><label for="text">Only those with this name, client or outcome:</label> '
+    yield '<input id="text" type="search" autocomplete="off"> <output id="found" for="text"></output></p>\n'
     head = [Cell("Session", "number"), Cell("When (UTC)"), Cell("Who"), Cell("Acts as"), Cell("From"), Cell("How"), Cell("What came of it")]
     yield from table(head, (
         [
-            Cell(it.number, "number"), when(it), Cell(it.account), Cell(it.acts_as), Cell(it.client), Cell(it.mechanism, "how"),
-            Cell(it.words, it.kind),
+            Cell(it.number, "number"), when(it), Cell(it.account), Cell(it.acts_as, "as"), Cell(it.client, "from"),
+            Cell(it.mechanism, "how"), Cell(it.words, it.kind),
         ]
         for it in sessions[-MOST_ROWS:]
     ), 'table id="sessions"')
@@ -249,6 +320,6 @@ def meanings(sessions: list[Session]) -> Iterator[str]:
     yield "<h2>What it means, and what to do</h2>\n"
     head = [Cell("What came of it"), Cell("Times", "number"), Cell("Means"), Cell("What to do")]
     yield from table(head, (
-        [Cell(MEANINGS[kind].words), number(count), Cell(MEANINGS[kind].means), Cell(MEANINGS[kind].to_do)]
+        [Cell(MEANINGS[kind].words), number(count, "times"), Cell(MEANINGS[kind].means, "said"), Cell(MEANINGS[kind].to_do, "said")]
         for kind, count in counted(sessions).most_common()
     ))
