@@ -189,6 +189,11 @@ def outcomes(folder: str) -> None:
     holds(door.notes("login")[13].endswith(due), "the journal lacks the client's connection", door.notes("login")[13])
     due = r"event=login outcome=accepted mechanism=SCRAM-SHA-256 name=user act_as=other log=\S+Z\.log session=7 service=smtp rip=.*"
     holds(any(re.fullmatch(due, line) for line in door.notes("login")), "the journal lacks the line of a login", door.notes("login"))
+    [noted] = door.logs.glob("*.clients")
+    opened = dict(re.findall(r"^(\d+) open \d{4}-\d\d-\d\dT\d\d:\d\d:\d\dZ (.+)$", noted.read_text(), re.M))
+    equal(opened, dict(re.findall(r" session=(\d+) (.+)", door.journal.read_text())), "what LOG.clients has of each session")
+    equal(opened["1"], "service=smtp rip=127.0.0.1 lip=127.0.0.1", "what it has of a client")
+    equal(sorted(re.findall(r"^(\d+) end ", noted.read_text(), re.M)), sorted(opened), "the sessions that end by LOG.clients")
 
 
 def told_of_nobody(server: Server, ident: int) -> str:

@@ -206,9 +206,7 @@ def a_page(folder: str) -> None:
     ], "who was guessed at")
     equal(page.tables["Clients that guessed most"], [
         ["Client", "Guesses", "Accounts", "Let in", "Let in as"],
-        ["service=imap rip=203.0.113.9", "2", "2", "", ""],
-        ["service=imap rip=192.0.2.33", "2", "1", "1", "phone"],
-        [home, "1", "1", "2", "user"],
+        ["rip=203.0.113.9", "2", "2", "", ""], ["rip=192.0.2.33", "2", "1", "1", "phone"], ["rip=192.0.2.7", "1", "1", "2", "user"],
     ], "who has guessed")
     sessions = page.tables["Sessions"][1:]
     equal([it[0] for it in sessions], [str(number) for number in range(1, 24) if number != 22], "the sessions that were decided")
@@ -299,16 +297,20 @@ def who_is_let_in(folder: str) -> None:
 
 
 def from_one_place(folder: str) -> None:
-    """Clients of one place are told once, whatever their processes are."""
+    """Clients of one place are told once, whatever their processes are; and of those that guess, what came of all that is from the same
+    address, by whatever service."""
     user, log = Account("user", "SCRAM-SHA-256"), Path(folder, "log")
-    visits = [[*logged_in(user, "fyko", "own"), gone()] for _ in range(3)]
+    visits = [*[[*logged_in(user, "fyko", "own"), gone()]] * 3, *[turned_away(user, "fyko", "own")] * 3]
     log.write_text(dealt([number for number, visit in enumerate(visits) for _ in visit], visits)[1])
     Path(folder, "book.toml").write_text(book([user]))
     clients = ["uid=0 pid=11 service=sshd rhost=192.0.2.7", "uid=0 pid=12 service=sshd rhost=192.0.2.7", "uid=1000 pid=13"]
+    clients += ["uid=0 pid=14 service=su rhost=192.0.2.7", "uid=1000 pid=15", "uid=1000 pid=16"]
     Path(f"{log}.clients").write_text("".join(f"{number} open 2026-11-30T04:10:00Z {it}\n" for number, it in enumerate(clients, 1)))
     page = page_of(folder, Path(folder, "book.toml"), log)
     equal(page.tables["Who was let in"][1][-1], "uid=0 service=sshd rhost=192.0.2.7, uid=1000", "from where a user was let in")
     equal([it[4] for it in page.tables["Sessions"][1:]], clients, "the clients of the sessions")
+    due = [["uid=1000", "2", "1", "1", "user"], ["rhost=192.0.2.7", "1", "1", "2", "user"]]
+    equal(page.tables["Clients that guessed most"][1:], due, "who has guessed")
 
 
 HOSTILE = ["<script>alert(1)</script>", '"><img src=x onerror=alert(1)>', "%3Cscript%3E&lt;b&gt;", "</title></style>'", "x" * 255]

@@ -5,7 +5,7 @@ Usage: report.py PROGRAM [TEST ..]
 
 The rows of data/audits/cases.csv, in the column `rows`, and those of data/reports/incident.rows were worked out by hand, as were those in
 the tables below; proofs and codes are computed with Python's hmac. The log of the incident has each event but `busy`, and each reason, in
-sessions that interleave. log_reader.py has to find the same rows, also in logs of many sessions by turns. What is printed after the rows
+sessions that interleave, and also one after the other in version 1. log_reader.py has to find the same rows, also in logs of many sessions by turns. What is printed after the rows
 is what an audit prints.
 """
 import os
@@ -62,11 +62,27 @@ def an_incident(folder: str) -> None:
     equal({it[6] for it in words if it[2] == "refused"}, REASONS, "the reasons")
 
 
+def sessions_in_turn(folder: str) -> None:
+    """The sessions of the incident have the same rows if they come one after the other, in version 1. Number 22, which is only greeted and
+    stays open, is left out."""
+    log, lines = pathlib.Path(folder, "log"), [line.partition(" ")[::2] for line in INCIDENT.read_text().splitlines()[1:]]
+    order = [at for number in range(1, 24) if number != 22 for at, line in enumerate(lines) if line[0] == str(number)]
+    log.write_text("\n".join(["SCRAMLOG 1", *(lines[at][1] for at in order), ""]))
+    due = {}
+    for at, number, rest in (row.split(" ", 2) for row in ROWS):
+        now = order.index(int(at) - 2) + 2
+        due[now] = f"{now} {22 if number == '23' else number} {rest}"
+    reports(BOOK, log, [due[now] for now in sorted(due)], ANSWER.replace("23", "22"))
+
+
 def a_full_hall(folder: str) -> None:
-    """A session that is turned away while 64 are open has a row; the log may end only once they have ended."""
-    log = pathlib.Path(folder, "log")
-    log.write_text("SCRAMLOG 2\n" + "".join(f"{number} {MECHS}\n" for number in range(1, 65)) + "65 S BUSY\n65 E\n1 C GONE\n1 E\n")
-    reports(KEYS, log, ["66 65 busy - - - -", "68 1 left - - - -"], "line 70: cut")
+    """A session that is turned away while 64 are open has a row. If it is offered mechanisms instead, that line is at fault."""
+    log, begun = pathlib.Path(folder, "log"), "SCRAMLOG 2\n" + "".join(f"{number} {MECHS}\n" for number in range(1, 65))
+    left = [f"{66 + 2 * number} {number} left - - - -" for number in range(1, 65)]
+    log.write_text(f"{begun}65 S BUSY\n65 E\n" + "".join(f"{number} C GONE\n{number} E\n" for number in range(1, 65)))
+    reports(KEYS, log, ["66 65 busy - - - -", *left], "clean sessions=64 accepted=0 codes=0")
+    log.write_text(f"{begun}65 {MECHS}\n65 E\n")
+    reports(KEYS, log, [], "line 66: order")
 
 
 def a_hyphen(folder: str) -> None:

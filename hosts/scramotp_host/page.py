@@ -234,6 +234,12 @@ def origin(session: Session) -> str:
     return re.sub(r"\bpid=\d+ ?", "", session.client).rstrip()
 
 
+def address(session: Session) -> str:
+    """The address of a session's client, by whatever service it came, or else what is known of it."""
+    found = re.search(r"(?:^| )((?:rip|rhost)=\S+)", session.client)
+    return found[1] if found else origin(session)
+
+
 def origins(sessions: list[Session]) -> str:
     """The most frequent clients of some sessions."""
     return most_frequent(Counter(origin(it) for it in sessions if it.client))
@@ -283,7 +289,7 @@ def guessed(sessions: list[Session]) -> Iterator[str]:
 
 def guessers(sessions: list[Session]) -> Iterator[str]:
     """The clients that guessed most, at how many accounts, and whether they were let in, and as whom."""
-    found = grouped([it for it in sessions if it.client], origin)
+    found = grouped([it for it in sessions if it.client], address)
     if not found:
         return
     yield "<h2>Clients that guessed most</h2>\n"
