@@ -15,6 +15,7 @@ import shutil
 import signal
 import stat
 import sys
+from collections.abc import Iterator
 from pathlib import Path
 from typing import Any
 
@@ -369,6 +370,7 @@ def clients_that_are_not_known(folder: str) -> None:
         (b"1 open 2026-11-30T04:10:00Z\n", "2026-11-30 04:10:00", ""),
         (b"1 open 2026-11-30T04:10:00Z uid=1 pid=2", "2026-11-30 04:10:00", "uid=1 pid=2"),
         (b"2 open 2026-11-30T04:10:00Z uid=1\n1 end 2026-11-30T04:10:00Z\n", "", ""),
+        (b"24 open 2026-11-30T04:10:00Z uid=1\n", "", ""),
         (b"1 open 2026-11-31T04:10:00Z uid=1\n", "", "uid=1"),
         (b"1 open 0001-01-01T00:00:00Z uid=1\n", "", "uid=1"),
         (b"1 open yesterday uid=1\n", "", ""),
@@ -602,27 +604,36 @@ document.title = `${document.body.clientWidth}: ${Math.max(...wide)}`;
 """
 
 
+def shown_logs(folder: str | Path) -> Iterator[tuple[str, Path, bytes, list[str], int]]:
+    """Logs whose pages are measured: what each is, the path of its book, its text, its clients, and the status of its report. One is clean,
+    one is at fault near its end, one has hostile names and clients, and one has 10000 sessions."""
+    text, clients = INCIDENT.read_bytes(), Path(f"{INCIDENT}.clients").read_text().splitlines()
+    yield "clean", BOOK_OF_INCIDENT, text, clients, 0
+    yield "at fault", BOOK_OF_INCIDENT, text.replace(b"21 S PASS 1796011861 59867062", b"21 S PASS 1796011861 59867061"), clients, 1
+    of_log, log = hostile_log(folder, [Account(name, "SCRAM-SHA-256") for name in HOSTILE])
+    opened = "open 2026-11-30T04:10:00Z"
+    yield "hostile", of_log, log.read_bytes(), [f"{number} {opened} name={it}" for number, it in enumerate(HOSTILE, 1)], 0
+    addresses = [f"{number} {opened} service=submission rip=2001:db8::{number}" for number in range(1, 10001)]
+    yield "long", AUDITS / "keys.toml", many_sessions(10000), addresses, 0
+
+
 def widths_of_pages(folder: str) -> None:
     """Nothing of a page is cut off at its right, however long names and clients are: on a small screen, on a large one, and on paper."""
     if not has("how wide a page is", "chromium"):
         return
-    for trial, kind in each(["incident", "hostile"]):
+    log = Path(folder, "measured.log")
+    for trial, (what, of_log, text, clients, status) in each(shown_logs(folder)):
         with trial:
-            if kind == "hostile":
-                of_log, log = hostile_log(folder, [Account(name, "SCRAM-SHA-256") for name in HOSTILE])
-                clients = [f"{number} open 2026-11-30T04:10:00Z name={it}\n" for number, it in enumerate(HOSTILE, 1)]
-            else:
-                of_log, log = BOOK_OF_INCIDENT, Path(shutil.copy(INCIDENT, folder))
-                clients = [Path(f"{INCIDENT}.clients").read_text()]
-            Path(f"{log}.clients").write_text("".join(clients))
-            page_of(folder, of_log, log)
-            text = Path(folder, "page.html").read_text()
+            log.write_bytes(text)
+            Path(f"{log}.clients").write_text("".join(f"{it}\n" for it in clients))
+            page_of(folder, of_log, log, status=status)
+            page = Path(folder, "page.html").read_text()
             # What is printed on paper of A4 is 718 points wide.
-            paper = text.replace("@media print", "@media all").replace("@media screen", "@media print")
-            for shown, width in [(text, 400), (text, 1025), (paper, 718)]:
+            paper = page.replace("@media print", "@media all").replace("@media screen", "@media print")
+            for shown, width in [(page, 400), (page, 1025), (paper, 718)]:
                 script = MEASURES_WIDTHS.replace("WIDE", str(width))
                 found = Page(in_browser(folder, shown, script, max(width, 500))).texts["title"][0]
-                equal(found, f"{width}: 0", "how wide the page is, and by how much a part is too wide", kind, shown == paper)
+                equal(found, f"{width}: 0", "how wide the page is, and by how much a part is too wide", what, shown == paper)
 
 
 suite.run_all()

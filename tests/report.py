@@ -5,8 +5,8 @@ Usage: report.py PROGRAM [TEST ..]
 
 The rows of data/audits/cases.csv, in the column `rows`, and those of data/reports/incident.rows were worked out by hand, as were those in
 the tables below; proofs and codes are computed with Python's hmac. The log of the incident has each event but `busy`, and each reason, in
-sessions that interleave, and also one after the other in version 1. log_reader.py has to find the same rows, also in logs of many sessions by turns. What is printed after the rows
-is what an audit prints.
+sessions that interleave; in version 1 they come one after the other. log_reader.py has to find the same rows, also in logs of many sessions
+by turns. What is printed after the rows is what an audit prints.
 """
 import os
 import pathlib

@@ -188,13 +188,15 @@ def a_code_of_this_moment(folder: str) -> None:
 
 
 def clients_of_a_log(folder: str) -> None:
-    """LOG.clients has the user, the process and the moment of each session as it begins, and the moment of its end: of one that is refused,
-    one that goes away, one that is turned away, and those that are there until the end."""
+    """LOG.clients has the user, the process and the moment of each session as it begins, and the moment of its end, at once: of one that is
+    refused, one that goes away, one that is turned away, and those that are there until the end."""
     serving = serving_hall(folder, BOOK_OF_USER)
     began = datetime.now(UTC).replace(microsecond=0)
     refused, away = greeted(folder), greeted(folder)
     answers(refused, "AUTH PLAIN", "NO :")
     equal(line_of(refused), "", "the end of a session that is refused")
+    noted = re.findall(r"^(\d+ \w+) .*\n", Path(folder, "hall.log.clients").read_text(), re.M)
+    equal(noted, ["1 open", "2 open", "1 end"], "what is noted at once")
     away.close()
     with contextlib.ExitStack() as guests:
         for _ in range(64):
