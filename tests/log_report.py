@@ -105,6 +105,31 @@ WHEN (UTC)           SESSION  WHO   FROM           HOW          OUTCOME
     holds("code passed" not in output, "a code at fault is told", output)
 
 
+def guesses_at_a_terminal(folder: str) -> None:
+    """After the table of sessions it is told which accounts are guessed at, ten at most, and which clients guessed and were let in."""
+    log = Path(folder, "log")
+    for end in ("", ".clients"):
+        shutil.copy(f"{INCIDENT}{end}", f"{log}{end}")
+    parts = report(folder, BOOK_OF_INCIDENT, log).given("the table").split("\n\n")
+    equal(parts[2:4], ["""\
+Accounts most guessed at:
+      2  user
+      2  phone
+      1  nobody""", """\
+Clients that guessed most:
+      2  rip=203.0.113.9
+      2  rip=192.0.2.33, let in as phone
+      1  rip=192.0.2.7, let in as user"""], "what is told of guesses")
+    accounts = [Account(f"user{number}", "SCRAM-SHA-1") for number in range(12)]
+    of_log, log = Path(folder, "book"), Path(folder, "other")
+    of_log.write_text(book(accounts))
+    visits = [turned_away(it, "fyko", "own") for it in [*accounts, accounts[11]]]
+    log.write_text(dealt([number for number, visit in enumerate(visits) for _ in visit], visits)[1])
+    due = ["Accounts most guessed at:", "      2  user11", *(f"      1  user{number}" for number in range(9)), "         and 2 more"]
+    parts = report(folder, of_log, log).given("the table").split("\n\n")
+    equal([it.splitlines() for it in parts[2:-1]], [due], "what is told of many accounts")
+
+
 def for_other_programs(folder: str) -> None:
     """A table and objects for other programs have the names as they are, whatever is in them, and what is known of the client."""
     names = ['=1+1', 'a,"b" %2C', "-", "<b>"]

@@ -4,16 +4,15 @@ Whatever stands in a log or in LOG.clients may be hostile. It comes into the pag
 page allows no script or style but its own.
 """
 import hashlib
-import re
 from base64 import b64encode
 from collections import Counter
-from collections.abc import Callable, Iterable, Iterator
+from collections.abc import Iterable, Iterator
 from html import escape
 from typing import NamedTuple
 
 from scramotp_host.chart import Bar, bars_in_order, bars_over_time, picture
 from scramotp_host.meanings import GUESSES, KINDS, MEANINGS, OF_CODES, UNDECIDED
-from scramotp_host.report import Answer, Session, counted, unsure
+from scramotp_host.report import Answer, Session, address, counted, grouped, guesses_in, most_frequent, names_let_in, origin, unsure
 
 # How many rows a table shows, of sessions the newest, since a browser takes long for more; and how many accounts that are guessed at.
 MOST_ROWS, MOST_GUESSED = 10000, 50
@@ -229,43 +228,14 @@ def accounts(sessions: list[Session], kind: str) -> Iterator[str]:
     yield left_out(len(found) - MOST_ROWS)
 
 
-def origin(session: Session) -> str:
-    """The client of a session without the number of its process, of which each has its own."""
-    return re.sub(r"\bpid=\d+ ?", "", session.client).rstrip()
-
-
-def address(session: Session) -> str:
-    """The address of a session's client, by whatever service it came, or else what is known of it."""
-    found = re.search(r"(?:^| )((?:rip|rhost)=\S+)", session.client)
-    return found[1] if found else origin(session)
-
-
 def origins(sessions: list[Session]) -> str:
     """The most frequent clients of some sessions."""
     return most_frequent(Counter(origin(it) for it in sessions if it.client))
 
 
-def most_frequent(counts: Counter[str]) -> str:
-    return ", ".join(it for it, _ in counts.most_common(3)) + (f" and {len(counts) - 3} more" if len(counts) > 3 else "")
-
-
 def left_out(count: int) -> str:
     """Says how many rows are left out, if there are any."""
     return f'<p class="note">{count} more are not shown.</p>\n' if count > 0 else ""
-
-
-def guesses_in(session: Session) -> int:
-    """How many guesses at its account a session is."""
-    return (session.outcome in GUESSES) + sum(session.codes.get(kind, 0) for kind in GUESSES)
-
-
-def grouped(sessions: list[Session], key: Callable[[Session], str | None]) -> list[tuple[str | None, list[Session]]]:
-    """The sessions with a guess by this key, those with the most guesses first, and with them all others that have the same key."""
-    counts, groups = Counter[str | None](), dict[str | None, list[Session]]()
-    for session in sessions:
-        groups.setdefault(key(session), []).append(session)
-        counts[key(session)] += guesses_in(session)
-    return [(it, groups[it]) for it, count in counts.most_common() if count]
 
 
 def guessed(sessions: list[Session]) -> Iterator[str]:
@@ -299,7 +269,7 @@ def guessers(sessions: list[Session]) -> Iterator[str]:
             Cell(client), number(sum(map(guesses_in, of)), "guesses"), number(len({it.account for it in of if guesses_in(it)}), "names"),
             number(names.total(), "accepted"), Cell(most_frequent(names), "as"),
         ]
-        for client, of in found[:MOST_GUESSED] for names in [Counter(it.account or "" for it in of if it.kind == "in")]
+        for client, of in found[:MOST_GUESSED] for names in [names_let_in(of)]
     ))
     yield left_out(len(found) - MOST_GUESSED)
 

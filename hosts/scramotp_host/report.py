@@ -10,7 +10,10 @@ from sys import intern
 from typing import NamedTuple
 from urllib.parse import unquote
 
-from scramotp_host.meanings import KIND_OF, MEANINGS, OF_CODES, VERDICTS, Verdict
+from scramotp_host.meanings import GUESSES, KIND_OF, MEANINGS, OF_CODES, VERDICTS, Verdict
+
+# How many accounts that are guessed at, and how many clients that guessed, are told at a terminal.
+MOST_TOLD = 10
 
 
 class Row(NamedTuple):
@@ -156,6 +159,55 @@ def unsure(sessions: Iterable[Session]) -> str:
     count = sum(it.kind == "in" and not it.codes for it in sessions)
     to_do = "If your service wants a code, it did not let these in: log-report --codes tells them apart."
     return f"Let in without a code: {count}. {to_do}" if count else ""
+
+
+def origin(session: Session) -> str:
+    """The client of a session without the number of its process, of which each has its own."""
+    return re.sub(r"\bpid=\d+ ?", "", session.client).rstrip()
+
+
+def address(session: Session) -> str:
+    """The address of a session's client, by whatever service it came, or else what is known of it."""
+    found = re.search(r"(?:^| )((?:rip|rhost)=\S+)", session.client)
+    return found[1] if found else origin(session)
+
+
+def guesses_in(session: Session) -> int:
+    """How many guesses at its account a session is."""
+    return (session.outcome in GUESSES) + sum(session.codes.get(kind, 0) for kind in GUESSES)
+
+
+def grouped(sessions: list[Session], key: Callable[[Session], str | None]) -> list[tuple[str | None, list[Session]]]:
+    """The sessions with a guess by this key, those with the most guesses first, and with them all others that have the same key."""
+    counts, groups = Counter[str | None](), dict[str | None, list[Session]]()
+    for session in sessions:
+        groups.setdefault(key(session), []).append(session)
+        counts[key(session)] += guesses_in(session)
+    return [(it, groups[it]) for it, count in counts.most_common() if count]
+
+
+def names_let_in(sessions: Iterable[Session]) -> Counter[str]:
+    """How often each account was let in."""
+    return Counter(it.account or "" for it in sessions if it.kind == "in")
+
+
+def most_frequent(counts: Counter[str]) -> str:
+    """The three most frequent, and how many others there are."""
+    return ", ".join(it for it, _ in counts.most_common(3)) + (f" and {len(counts) - 3} more" if len(counts) > 3 else "")
+
+
+def guesses(sessions: list[Session]) -> Iterator[str]:
+    """Lines for a terminal: the accounts that are most guessed at, and the clients that guessed most, with whom they were let in as."""
+    accounts = grouped(sessions, lambda it: it.account)
+    clients = grouped([it for it in sessions if it.client], address)
+    for title, found in ("Accounts most guessed at", accounts), ("Clients that guessed most", clients):
+        if found:
+            yield f"\n{title}:"
+        for key, of in found[:MOST_TOLD]:
+            let_in = most_frequent(names_let_in(of)) if found is clients else ""
+            yield f"{sum(map(guesses_in, of)):7}  {key}" + (f", let in as {let_in}" if let_in else "")
+        if len(found) > MOST_TOLD:
+            yield f"{'':7}  and {len(found) - MOST_TOLD} more"
 
 
 # What a table for a terminal has of a session, by its head. A longer text than the widest is not cut, and moves the rest of its line.
