@@ -91,11 +91,11 @@ SESSION  WHO   HOW          OUTCOME
 
 {totals}
 {clean}""", ""), "without clients")
-    Path(folder, "log.clients").write_text("2 open 2026-11-30T04:10:00Z rip=192.0.2.7\n1 open 2026-11-30T04:09:59Z uid=7 pid=8\n")
+    Path(folder, "log.clients").write_text("2 open 1970-01-01T00:00:03Z rip=192.0.2.7\n1 open 1970-01-01T00:00:02Z uid=7 pid=8\n")
     equal(report(folder, AUDITS / "hotp.toml", log), (0, f"""\
 WHEN (UTC)           SESSION  WHO   FROM           HOW          OUTCOME
-2026-11-30 04:09:59  1        user  uid=7 pid=8    SCRAM-SHA-1  let in, code passed
-2026-11-30 04:10:00  2              rip=192.0.2.7  PLAIN        mechanism not offered
+1970-01-01 00:00:02  1        user  uid=7 pid=8    SCRAM-SHA-1  let in, code passed
+1970-01-01 00:00:03  2              rip=192.0.2.7  PLAIN        mechanism not offered
 
 {totals}
 {clean}""", ""), "with clients")
@@ -413,6 +413,23 @@ def clients_that_are_not_known(folder: str) -> None:
             holds(len(page.tables["The chart as a table"]) <= 61, "the chart has too many bars", text)
             status, output, faults = report(folder, BOOK_OF_INCIDENT, log, "--csv")
             equal((status, faults, output.count("\n")), (0, "", len(ROWS_OF_INCIDENT) + 1), "the table", text)
+
+
+def clients_of_another_log(folder: str) -> None:
+    """If codes were judged more than a minute before their session began by LOG.clients, or a day after, that file is not to be relied on:
+    the table and the page say so. The codes of the first session were judged on 2026-11-30 from 04:10:02 to 04:10:12."""
+    log = Path(folder, "incident.log")
+    shutil.copy(INCIDENT, log)
+    for trial, (moment, count) in each([
+        ("2026-11-29T04:10:14Z", 0), ("2026-11-29T04:10:12Z", 1), ("2026-11-30T04:11:02Z", 0), ("2026-11-30T04:11:03Z", 1),
+    ]):
+        with trial:
+            Path(f"{log}.clients").write_text(f"1 open {moment} uid=1\n2 open 1970-01-01T00:00:00Z uid=1\n")
+            told = f"Sessions whose codes do not fit LOG.clients, by their time: {count}. Do not rely on when and from where sessions came"
+            page_of(folder, BOOK_OF_INCIDENT, log)
+            texts = [Path(folder, "page.html").read_text(), report(folder, BOOK_OF_INCIDENT, log).given("the table")]
+            equal([told in it for it in texts], [count > 0] * 2, "whether it is told", moment)
+            equal(["do not fit" in it for it in texts], [count > 0] * 2, "whether anything is told", moment)
 
 
 def faults(folder: str) -> None:

@@ -12,7 +12,8 @@ from typing import NamedTuple
 
 from scramotp_host.chart import Bar, bars_in_order, bars_over_time, picture
 from scramotp_host.meanings import GUESSES, KINDS, MEANINGS, OF_CODES, UNDECIDED
-from scramotp_host.report import Answer, Session, address, counted, grouped, guesses_in, most_frequent, names_let_in, origin, unsure
+from scramotp_host.report import Answer, Session, address, counted, misfit, origin, unsure
+from scramotp_host.report import grouped, guesses_in, most_frequent, names_let_in
 
 # How many rows a table shows, of sessions the newest, since a browser takes long for more; and how many accounts that are guessed at.
 MOST_ROWS, MOST_GUESSED = 10000, 50
@@ -142,6 +143,7 @@ def page(log: str, answer: Answer, sessions: list[Session]) -> Iterator[str]:
     yield from audited(answer)
     if sessions:
         yield from totals(sessions)
+        yield f"<p><strong>{note}</strong></p>\n" if (note := misfit(sessions)) else ""
         yield from chart(sessions)
         yield from let_in(sessions)
         yield from guessed(sessions)

@@ -4,7 +4,7 @@ from collections import Counter
 from collections.abc import Callable, Collection, Iterable, Iterator, Mapping
 from contextlib import suppress
 from dataclasses import dataclass, field
-from datetime import datetime
+from datetime import datetime, timedelta
 from functools import lru_cache
 from sys import intern
 from typing import NamedTuple
@@ -84,10 +84,14 @@ def moment_of(text: str) -> datetime | None:
     return None
 
 
+# How many seconds after a session began, by LOG.clients, its codes may be judged, if both are of one log: clocks are set, but no more.
+FITTING = range(-60, 86400)
+
+
 @dataclass(slots=True)
 class Session:
     """A session: when it began, and its client, if that is known; whether its service wants a code; what has come of the login, and how
-    many of its codes have come to what, by the keys of MEANINGS."""
+    many of its codes have come to what, by the keys of MEANINGS; and whether the moments of its codes fit to when it began."""
 
     number: int
     opened: datetime | None
@@ -98,6 +102,7 @@ class Session:
     mechanism: str | None = None
     login: str = ""
     codes: dict[str, int] = field(default_factory=dict)
+    fits: bool = True
 
     def takes(self, row: Row) -> None:
         """Takes a row of the session. What ends it after its login is not told."""
@@ -105,6 +110,9 @@ class Session:
         kind = kind_of(row)
         if kind in OF_CODES:
             self.codes[kind] = self.codes.get(kind, 0) + 1
+            if self.opened and row.reason != "-":
+                began = (self.opened - datetime(1970, 1, 1)) // timedelta(seconds=1)
+                self.fits = self.fits and int(row.reason.split(" ")[0]) - began in FITTING
         elif not self.login:
             self.login = kind
 
@@ -152,6 +160,13 @@ def counted(sessions: Iterable[Session]) -> Counter[str]:
         counts[session.outcome] += 1
         counts.update(session.codes)
     return counts
+
+
+def misfit(sessions: Iterable[Session]) -> str:
+    """What is wrong with LOG.clients, by the moments of codes, if anything."""
+    count = sum(not it.fits for it in sessions)
+    to_do = "Do not rely on when and from where sessions came: the file may be of another log."
+    return f"Sessions whose codes do not fit LOG.clients, by their time: {count}. {to_do}" if count else ""
 
 
 def unsure(sessions: Iterable[Session]) -> str:
