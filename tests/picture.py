@@ -22,7 +22,7 @@ PICTURE = TOP / "docs/who_got_in.png"
 TOOL = TOP / "tools/log-report"
 INCIDENT = DATA / "reports" / "incident.log"
 # How wide and how high it is, in pixels.
-SIZE = "1100,1362"
+SIZE = "1100,1422"
 # Where the second chunk of a PNG begins: after its signature and its header.
 SECOND = 33
 

@@ -141,6 +141,8 @@ def page(log: str, answer: Answer, sessions: list[Session]) -> Iterator[str]:
 <h1>Who got in: {escape(log)}</h1>
 """
     yield from audited(answer)
+    yield '<p class="note">This page is as secret as the log: it tells which names have accounts, which no client is told. '
+    yield "When, in UTC, and from where a session came is what the server says, and no evidence.</p>\n"
     if sessions:
         yield from totals(sessions)
         yield f"<p><strong>{note}</strong></p>\n" if (note := misfit(sessions)) else ""
@@ -148,12 +150,11 @@ def page(log: str, answer: Answer, sessions: list[Session]) -> Iterator[str]:
         yield from let_in(sessions)
         yield from guessed(sessions)
         yield from guessers(sessions)
-        yield from all_sessions(sessions)
         yield from meanings(sessions)
+        yield from all_sessions(sessions)
     else:
         yield "<p>No login was decided.</p>\n"
-    yield '<p class="note">This page is as secret as the log. It tells which names have accounts, which no client is told. '
-    yield "When, in UTC, and from where a session came is what the server says, and no evidence.</p>\n</main>\n"
+    yield "</main>\n"
     yield f"<script>{SCRIPT}</script>\n" if sessions else ""
 
 
