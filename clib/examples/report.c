@@ -48,7 +48,7 @@ int main(int count, char **words)
     }
     free(book.at);
     free(log.at);
-    if (rows.at)
+    if (rows.at && number != SCRAMOTP_NO_MEMORY)
         fwrite(rows.at, 1, rows.len, stdout);
     free(rows.at);
     if (number == SCRAMOTP_OK)
