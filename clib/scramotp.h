@@ -1,9 +1,9 @@
 /* libscramotp: SCRAM-SHA-1 and SCRAM-SHA-256 at a server and at a client (RFC 5802, RFC 7677), without channel binding; HOTP and TOTP
- * codes (RFC 4226, RFC 6238).
+ * codes (RFC 4226, RFC 6238). Link with -lscramotp, which needs only the C library.
  *
  * Each call is proved to do what is said here. No call keeps a pointer, or shares anything with another call, so any thread may make any
- * call at any time. Only scramotp_audit and scramotp_report allocate memory, by malloc, and they have freed all when they return. A login
- * is tested in threads with stacks of 128 KiB.
+ * call at any time. Only scramotp_audit and scramotp_report allocate memory, by malloc, and they have freed all when they return. No call
+ * wipes memory that had a secret. Each is tested in threads with stacks of 128 KiB.
  *
  * You owe each call pointers to as many bytes as it says, which no other thread writes meanwhile. What a call writes to overlaps none of
  * its other arguments. A pointer is NULL only if the length after it is 0; `at` in scramotp_bytes never is. All else is judged: what a
@@ -14,8 +14,9 @@
  * a log is at fault.
  *
  * A login. Keep the entry, the client's first message and the challenge until the client's final message is there. There `get` and
- * `put` receive and send a message, `fill` makes the entry of the account of a name for the mechanism that the client has named, here
- * SCRAM-SHA-256, and `nonce` has 24 fresh characters. Who is accepted acts as `names.act_as`, or as `names.name` if that is empty.
+ * `put` receive and send a message, without the base64 that SMTP, IMAP and others put around it, `fill` makes the entry of the account of
+ * a name for the mechanism that the client has named, here SCRAM-SHA-256, and `nonce` has 24 fresh characters. Who is accepted acts as
+ * `names.act_as`, or as `names.name` if that is empty.
  *
  *     first_len = get(first);
  *     if (scramotp_read_names(first, first_len, &names) != 0)
@@ -49,7 +50,8 @@
  *     return scramotp_client_check(client.mechanism, signature, verdict, verdict_len) == 0 ? accepted : refused;
  *
  * A code. A token is its secret and a struct, of which `next`, `last`, `drift` and `failures` are state. Judge one code of a token at a
- * time, and store the token before you act on a pass: else the code can pass again.
+ * time, and store the token before you act on a pass: else the code can pass again. The secret is bytes, not the base32 that a phone
+ * scans, and the code is what was typed, whatever that is.
  *
  *     lock(account);
  *     number = scramotp_totp(secret, 20, &token, (uint64_t)time(NULL), code, strlen(code));
@@ -229,7 +231,8 @@ typedef struct {
  * 43 if the code does not pass, or 44 if the token is locked; these two, like 0, leave the token's state changed as they say. */
 uint32_t scramotp_hotp(const void *secret, size_t secret_len, scramotp_hotp_token *token, const void *code, size_t code_len);
 
-/* Judges two codes in a row, to find a token whose counter has run far ahead (RFC 4226, section 7.4). Else as scramotp_hotp. */
+/* Judges two codes in a row, to find a token whose counter has run far ahead (RFC 4226, section 7.4). Else as scramotp_hotp. Two codes of a
+ * TOTP token never pass: judge an empty one instead, which counts the failure. */
 uint32_t scramotp_hotp_sync(const void *secret, size_t secret_len, scramotp_hotp_token *token, const void *first, size_t first_len,
     const void *second, size_t second_len);
 
@@ -241,16 +244,18 @@ uint32_t scramotp_totp(const void *secret, size_t secret_len, scramotp_totp_toke
 /* A log that others can audit, by scramotp_audit or by the program, begins with SCRAMOTP_LOG_BEGIN. After that come the lines of its
  * sessions: SCRAMOTP_S_MECHS as a client comes, then what both say, in turn, and SCRAMOTP_E. Write a line before you say it.
  *
+ *     SCRAMLOG 2
  *     1 S MECHS SCRAM-SHA-256 SCRAM-SHA-1
- *     1 C AUTH SCRAM-SHA-256 :n,,n=user,r=rOprNGfwEbeRWgbNEkqO
- *     1 S CONT :r=..,s=..,i=4096       the challenge
- *     1 C RESP :c=biws,r=..,p=..
- *     1 S OK :v=..                     or S NO with the message of a refusal, and then E
- *     1 C CODE 755224                  as often as the client likes
+ *     1 C AUTH SCRAM-SHA-1 :n,,n=user,r=fyko+d2lbbFgONRv9qkxdawL
+ *     1 S CONT :r=fyko+d2lbbFgONRv9qkxdawL3rfcNHYJY1ZVvWVs7j,s=QSXCR+Q6sek8bf92,i=4096
+ *     1 C RESP :c=biws,r=fyko+d2lbbFgONRv9qkxdawL3rfcNHYJY1ZVvWVs7j,p=v0X8v3Bz2T0CJGbJQyF0X+HI4Ts=
+ *     1 S OK :v=rmF9pqV8S7suAoZWja4dJRkFsKQ=
+ *     1 C CODE 755224
  *     1 S PASS 1764460800 0
  *     1 C GONE
  *     1 E
- */
+ *
+ * A login that is refused has S NO in place of S OK, with the message that tells it, and then E. Codes come as often as the client likes. */
 #define SCRAMOTP_LOG_BEGIN "SCRAMLOG 2\n"
 
 /* The room that the longest line needs. */
@@ -301,14 +306,47 @@ typedef struct {
     uint64_t codes_passed;  /* of a clean log, how many codes have passed, or pairs of codes in a row */
 } scramotp_audited;
 
-/* Judges a log by the text of the account book that it began with (docs/FORMATS.md; logged.c writes both). The answer is 0 exactly if the
- * log is clean and has at most 1000000 lines; then the struct has its counts.
+/* Judges a log by the text of the account book that it began with. The answer is 0 exactly if the log is clean and has at most 1000000
+ * lines; then the struct has its counts. logged.c writes a log and its book. The book of the log above is this, in TOML, with bytes in
+ * hexadecimal:
+ *
+ *     format = 1
+ *     decoy_key = "000102030405060708090a0b0c0d0e0f101112131415161718191a1b1c1d1e1f"
+ *     decoy_count = 4096
+ *     [accounts."user"]
+ *     act_as = []
+ *     [accounts."user".sha1]
+ *     count = 4096
+ *     salt = "4125c247e43ab1e93c6dff76"
+ *     stored = "e9d94660c39d65c38fbad91c358f14da0eef2bd6"
+ *     server = "0fe09258b3ac852ba502cc62ba903eaacdbf7d31"
+ *     [accounts."user".token]
+ *     kind = "hotp"
+ *     secret = "3132333435363738393031323334353637383930"
+ *     digits = 6
+ *     next = 0
+ *     look_ahead = 2
+ *     sync_ahead = 10
+ *     limit = 5
+ *     failures = 0
+ *
+ * `decoy_key` and `decoy_count` are what you give scramotp_decoy. An account has the keys of each mechanism, in `sha1` and `sha256`, and a
+ * token, or some of these. A token has the fields of its struct as it then was: of TOTP `hash` is "sha1", "sha256" or "sha512", and `last`
+ * is left out if no step has passed. In a name a backslash stands before each double quote and each backslash. docs/FORMATS.md has more.
+ *
  * Numbers: 60 to 67 of the book, 87 for more lines, and 99, which only a lack of memory should bring; with these the struct is as it was.
  * Else 80 to 86, why the first line at fault is at fault, and the struct has its number and 0 as each count. */
 uint32_t scramotp_audit(const void *book, size_t book_len, const void *log, size_t log_len, scramotp_audited *audited);
 
-/* Says who was let in by a log, who was refused, and why: judges it as scramotp_audit does, and writes the rows (docs/FORMATS.md) of the
- * lines before the first at fault, each with its LF. Rows are as secret as the log.
+/* Says who was let in by a log, who was refused, and why: judges it as scramotp_audit does, and writes the rows of the lines before the
+ * first at fault, each with its LF. Rows are as secret as the log. Those of the log above are
+ *
+ *     6 1 accepted user - SCRAM-SHA-1 -
+ *     8 1 passed user - SCRAM-SHA-1 1764460800 0
+ *
+ * with the line, the session, what happened, the name, the name to act as, the mechanism, and why it happened or what passed when; `-`
+ * stands for none. docs/FORMATS.md has all that can happen, and each reason.
+ *
  * Numbers: as scramotp_audit, with the struct as there, and the rows are written also with 80 to 87; but 93 if the room is too short. Then
  * `out_len` has the length of the rows, and nothing else is written, so you can call again. With 60 to 67 and 99 all is as it was. */
 uint32_t scramotp_report(const void *book, size_t book_len, const void *log, size_t log_len, void *out, size_t out_room, size_t *out_len,
