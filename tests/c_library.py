@@ -12,6 +12,8 @@ import itertools
 import os
 import pathlib
 import re
+import shutil
+import signal
 import subprocess
 import sys
 import time
@@ -19,13 +21,16 @@ import urllib.parse
 from collections.abc import Callable, Iterator
 from typing import Any, NamedTuple
 
+import book_cases
+import installs
+import shims
 import suite
 from audit_cases import TABLE, cases
 from c_support import ARCHIVES, DECOY_KEY, FUNCTIONS, MADE, WARNINGS, answer_to, base64_of, decoy_salt, library
 from checks import equal, holds
 from expected import AUDITS, DATA, VECTORS, code, edited_texts, keys_of, rows_of
-from processes import ran
-from suite import CODES, SEEDS, TOP, each, has, not_tested
+from processes import Running, ran, until
+from suite import CODES, SEEDS, TOP, as_nobody, each, has, not_tested
 
 EXAMPLES = TOP / "clib/examples"
 
@@ -161,11 +166,17 @@ def no_room(folder: str) -> None:
     logins_are([Login(it["mechanism"], it, [], it["first"], "", [], "refused: 93") for it in (SHA1, SHA256)], small)
 
 
+def header_blocks() -> list[str]:
+    """The blocks in the comments of the header: three of code, a log, the book that it begins with, and the rows of its report."""
+    found = re.findall(r"(?:^ \*     .*\n)+", (TOP / "clib/scramotp.h").read_text(), re.M)
+    equal(len(found), 6, "the blocks in the header")
+    return [it.replace(" *     ", "") for it in found]
+
+
 def blocks_of_header(folder: str) -> None:
     """The blocks of code in the header, as they stand, serve a login, log in, and judge a code that passes once."""
-    comment = (TOP / "clib/scramotp.h").read_text().partition("*/")[0]
-    for name, text in zip(["server", "client", "code"], re.findall(r"(?:^ \*     .*\n)+", comment, re.M), strict=True):
-        pathlib.Path(folder, f"{name}.inc").write_text(text.replace(" *     ", ""))
+    for name, text in zip(["server", "client", "code"], header_blocks()[:3]):
+        pathlib.Path(folder, f"{name}.inc").write_text(text)
     program = compiled(TOP / "tests/c_header_blocks.c", "blocks", "-I", folder, library() / "libscramotp.a")
     of, wrong = {**SHA256, "nonce": SHA256["nonce"][:24]}, "e=invalid-proof"
     decoy = {**of, "salt": decoy_salt("SCRAM-SHA-256", "nobody").hex()}
@@ -276,6 +287,23 @@ def client_example(folder: str) -> None:
                 equal((answer.output, answer.faults, answer.status), (f"{it.first}\n{final}\n", faults, status), said)
 
 
+def installed(folder: str) -> None:
+    """By what `make install_library` installs, pkg-config says how to compile the example in C, which serves both published logins."""
+    if not has("a program by pkg-config", "pkg-config"):
+        return
+    made = installs.made("install_library", suite.PROGRAM, CLIB_FOLDER=library(), PREFIX=f"{folder}/it")
+    equal((made.status, made.faults), (0, ""))
+    asked = ["env", f"PKG_CONFIG_PATH={folder}/it/lib/pkgconfig", "pkg-config"]
+    flags = ran([*asked, "--cflags", "--libs", "scramotp"]).given().split()
+    program, source = f"{folder}/login", shutil.copy(EXAMPLES / "login.c", folder)
+    equal(ran(["cc", "-std=c11", *WARNINGS, source, "-o", program, *flags, f"-Wl,-rpath,{folder}/it/lib"]), (0, "", ""), flags)
+    needed = re.findall(r"NEEDED +(\S+)", ran(["objdump", "-p", program]).given())
+    equal(sorted(needed), ["libc.so.6", "libscramotp.so.0"], "what the program needs")
+    for of in SHA1, SHA256:
+        answer = ran([program, of["mechanism"], of["salt"], of["nonce"]], f"{of['first']}\n{of['final']}\n")
+        equal(answer, (0, f"{of['challenge']}\n{of['verdict']}\n", "user is logged in as user\n"))
+
+
 # Verifiers that PostgreSQL and Dovecot made, of passwords.
 VERIFIERS = rows_of(VECTORS / "verifiers.csv")
 
@@ -303,6 +331,40 @@ def verifier_example(folder: str) -> None:
                     equal(ran(["doveadm", "pw", "-t", made, "-p", password]).status, status, password)
 
 
+def at_postgres(folder: str) -> None:
+    """PostgreSQL keeps a verifier that the library has made of a password, and logs in who has that password, and no other."""
+    servers = sorted(pathlib.Path("/usr/lib/postgresql").glob("*/bin/initdb"))
+    if not has("logins at PostgreSQL", str(servers[-1]) if servers else "initdb", "psql", root=True):
+        return
+    own = pathlib.Path(folder, "own")
+    own.mkdir()
+    for it, user in (folder, None), (own, "nobody"):
+        os.chmod(it, 0o755)
+        os.chown(it, as_nobody()["user"] if user else -1, -1)
+    words = ["-D", own / "data", "-U", "admin", "-A", "trust", "--no-sync", "--no-instructions"]
+    equal(ran([servers[-1], *words], **as_nobody()).status, 0, "initdb")
+    (own / "data/pg_hba.conf").write_text("local all admin trust\nlocal all all scram-sha-256\n")
+    options = ["-k", own, "-c", "listen_addresses=", "-c", "fsync=off", "-c", "log_min_messages=panic"]
+    server = Running([servers[-1].with_name("postgres"), "-D", own / "data", *options], **as_nobody())
+
+    def asked(user: str, password: str, query: str) -> tuple[int, str]:
+        answer = ran(["env", f"PGPASSWORD={password}", "psql", "-XAtqw", "-h", own, "-U", user, "-d", "postgres", "-c", query])
+        return answer.status, answer.output
+
+    until(lambda: server.process.poll() is not None or asked("admin", "", "SELECT 1")[0] == 0, "PostgreSQL does not answer")
+    for trial, (name, password) in each([("alice", b"pencil"), ("bob", b"p=w,d"), ("carol", b"p" * 1024)]):
+        with trial:
+            entry = entry_of(256, 4096, bytes(range(16)), password)
+            _, text, size = written("write_verifier", 204, entry, number(1))
+            verifier = text[:size].decode()
+            equal(asked("admin", "", f"CREATE ROLE {name} LOGIN PASSWORD '{verifier}'"), (0, ""))
+            equal(asked("admin", "", f"SELECT rolpassword FROM pg_authid WHERE rolname = '{name}'"), (0, f"{verifier}\n"))
+            for given, want in (password.decode(), (0, f"{name}\n")), (password.decode()[1:] + "x", (2, "")):
+                equal(asked(name, given, "SELECT current_user"), want)
+    server.process.send_signal(signal.SIGINT)
+    equal(server.end().status, 0, "PostgreSQL's end")
+
+
 def audits(folder: str) -> None:
     """The example of an audit says of each log of data/audits what the table says."""
     program, log = compiled(EXAMPLES / "audit.c", "audit"), pathlib.Path(folder, "log")
@@ -323,6 +385,27 @@ def reports(folder: str) -> None:
             rows = row["rows"].split("\\n") if row["rows"] else []
             said = "".join(f"{it}\n" for it in [*rows, f"logins: {accepted[1]}" if accepted else f"fault in line {line[1]}"])
             equal(ran([program, AUDITS / f"{row['book']}.toml", log]), (int(not accepted), said, ""), row["shows"])
+
+
+def no_memory(folder: str) -> None:
+    """If a request for memory is refused, by itself or with all after it, the examples of an audit and of a report say what they else say,
+    or that they can't read a file, or 99. Each says that some time."""
+    shim, book, log = shims.built("refuse_memory"), AUDITS / "hotp.toml", AUDITS / "interleaved.log"
+    for trial, (name, lasting) in each(itertools.product(["audit", "report"], [{}, {"LASTING": "1"}])):
+        with trial:
+            program, seen = compiled(EXAMPLES / f"{name}.c", name), set()
+
+            def refused_at(at: int) -> tuple[tuple[int, str], int]:
+                answer = ran([program, book, log], env={**os.environ, **lasting, "LD_PRELOAD": shim, "REFUSED": str(at)})
+                faults, requests = shims.requests(answer.faults, name, at)
+                equal(faults, "", at)
+                return (answer.status, answer.output), requests
+
+            whole, requests = refused_at(0)
+            equal(whole[0], 0, whole)
+            for at in range(1, requests + 1):
+                seen.add(refused_at(at)[0])
+            equal(seen - {whole}, {(2, ""), (1, {"audit": "fault 99\n", "report": "number 99\n"}[name])}, name, lasting)
 
 
 def under_valgrind(folder: str) -> None:
@@ -372,16 +455,19 @@ def refusals_of(of: dict[str, str]) -> Iterator[Login]:
     yield Login("decoy", of, [], name, final, [challenge, "e=invalid-proof"], "refused: 36")
 
 
+# First messages that are refused, by their numbers.
+NO_FIRST = {
+    20: ["", "n,,n=user", "x,,n=user,r=a", "n,,n=us=er,r=a", "n,,n=user,r=" + "a" * 257],
+    21: ["n,,m=x,n=user,r=a", "n,,n=user,r=a,m=x"],
+    22: ["p=tls-unique,,n=user,r=a"],
+    23: ["n,,n=us\u00e9r,r=a", "n,a=\u00e9,n=user,r=a", "n,,n=" + "u" * 256 + ",r=a"],
+}
+
+
 def refused(folder: str) -> None:
     """A login by a wrong password, with another nonce, header or name, or of a name without an account is refused, by its number."""
     logins_are([*refusals_of(SHA1), *refusals_of(SHA256)])
-    faults = {
-        "20": ["", "n,,n=user", "x,,n=user,r=a", "n,,n=us=er,r=a", "n,,n=user,r=" + "a" * 257],
-        "21": ["n,,m=x,n=user,r=a", "n,,n=user,r=a,m=x"],
-        "22": ["p=tls-unique,,n=user,r=a"],
-        "23": ["n,,n=us\u00e9r,r=a", "n,a=\u00e9,n=user,r=a", "n,,n=" + "u" * 256 + ",r=a"],
-    }
-    logins_are([Login(number, SHA1, [], text, "", [], f"refused: {number}") for number, texts in faults.items() for text in texts])
+    logins_are([Login(str(it), SHA1, [], text, "", [], f"refused: {it}") for it, texts in NO_FIRST.items() for text in texts])
 
 
 def acts_as(folder: str) -> None:
@@ -571,6 +657,23 @@ def decoys(folder: str) -> None:
             equal(bytes(entry), before)
 
 
+def names(folder: str) -> None:
+    """The names in a first message are given back as they are spelled, each with NULs after it. A message that is refused leaves them."""
+    for trial, (text, name, act_as) in each([
+        (SHA256["first"], "user", ""), ("y,a==3D=2C,n=a=2Cb=3Dc,r=x", "a,b=c", "=,"), ("n,a=user,n=user,r=x,x=y", "user", "user"),
+        (f"n,a={'=3D' * 255},n={'=2C' * 255},r=x", "," * 255, "=" * 255),
+    ]):
+        with trial:
+            found = ctypes.create_string_buffer(b"X" * 512, 512)
+            equal(call("read_names", text.encode(), found), 0)
+            equal(found.raw, name.encode().ljust(256, b"\0") + act_as.encode().ljust(256, b"\0"))
+    for trial, (want, texts) in each([*NO_FIRST.items()]):
+        with trial:
+            for text in texts:
+                found = ctypes.create_string_buffer(b"X" * 512, 512)
+                equal((call("read_names", text.encode(), found), found.raw), (want, b"X" * 512), text)
+
+
 def written(name: str, room: int, *given: Any, after: tuple[Any, ...] = ()) -> tuple[int, bytes, int]:
     """Makes a call that writes a message into a buffer of X, with these arguments before and after it. Returns its number, the buffer, and
     the length that was written."""
@@ -756,8 +859,8 @@ def client_faults(folder: str) -> None:
 
 
 def audited(folder: str) -> None:
-    """A text that is no book is refused by the number of its first fault, and a log of more than a million lines by 87, and the structure
-    stays as it was. A line at fault is named, and the counts are then 0."""
+    """A text that is no book is refused by the number of its first fault, as data/book_faults says, and a log of more than a million lines
+    by 87, and the structure stays as it was. A line at fault is named, and the counts are then 0."""
     book, log = (AUDITS / "keys.toml").read_bytes(), (AUDITS / "sha1.log").read_bytes()
     many = b"SCRAMLOG 1\n" + b"S MECHS SCRAM-SHA-256 SCRAM-SHA-1\nC ABORT\nS NO :\nE\n" * 250000
     for trial, (want, text, lines, found) in each([
@@ -768,6 +871,12 @@ def audited(folder: str) -> None:
         with trial:
             it = Audited(1, 2, 3, 4)
             equal((call("audit", text, lines, it), (it.line, it.sessions, it.accepted, it.codes_passed)), (want, found))
+    for trial, case in each(book_cases.cases()):
+        with trial:
+            want = int(case.answer) if case.answer.isdigit() else 0
+            for name, more in ("audit", ()), ("report", (None, ctypes.c_size_t(0), ctypes.byref(ctypes.c_size_t()))):
+                it = Audited(1, 2, 3, 4)
+                equal((call(name, case.book, b"SCRAMLOG 1\n", *more, it), it.line), (want, 1 if want else 0), case.shows)
 
 
 def rows_of_logs(folder: str) -> None:
@@ -892,6 +1001,38 @@ def log_example(folder: str) -> None:
             unread = ["S MECHS SCRAM-SHA-256 SCRAM-SHA-1", f"C AUTH {of['mechanism']} :x%20", "S NO :", "E"]
             want = "".join(f"{it}\n" for it in ["SCRAMLOG 2", *(f"1 {it}" for it in unread), "clean: accepted 0"])
             equal(ran(words, "x \n"), (0, want, ""))
+
+
+# What is in a book for a TOTP token, by the name of each field of its structure; `last` is left out, since no step has passed.
+TOTP_TABLE = {"t0": 0, "step": 30, "back": 1, "ahead": 1, "max_drift": 2, "drift": 0, "limit": 5, "failures": 0}
+TOTP_TABLE |= {"hash": '"sha1"', "digits": 8}
+
+
+def log_of_header(folder: str) -> None:
+    """The header's log is clean by the header's book, and has the header's rows. So it is with another name, and with a TOTP token, which
+    are spelled as the header says; and two codes of such a token in a row are logged as the failure of an empty one."""
+    equal({*TOTP_TABLE} | {"last"}, {name for name, _ in Totp._fields_})
+    log, book, rows = header_blocks()[3:]
+    kept, secret, _ = re.search(r'(?s)(.*token\]\n)kind.*(secret = .*?\n)(.*)', book).groups()
+    totp = f'{kept}kind = "totp"\n{secret}' + "".join(f"{name} = {it}\n" for name, it in TOTP_TABLE.items())
+    first = SHA1["first"].replace("user", 'a"\\b')
+    challenge, final, verdict = final_for(SHA1, first)
+    other = log.replace(SHA1["first"], first).replace(SHA1["final"], final).replace(SHA1["verdict"], verdict)
+    equal(challenge, SHA1["challenge"])
+    token = Totp(0, 30, 1, 1, 2, 2**64 - 1, 0, 5, 0, 1, 8)
+    equal((call("totp", bytes.fromhex(SEEDS["sha1"]), token, ctypes.c_uint64(59), b""), token.failures), (43, 1))
+    shown = rows.replace(" user ", ' a"\\b ')
+    counted, passed, failed = "C CODE 755224\n1 S PASS 1764460800 0", "C CODE 94287082\n1 S PASS 59 1", "C SYNC 1 2\n1 S FAIL 59"
+    for trial, (lines, by, due, count) in each([
+        (log, book, rows, 1), (other, book.replace('"user"', '"a\\"\\\\b"'), shown, 1),
+        (log.replace(counted, passed), totp, rows.replace("1764460800 0", "59 1"), 1),
+        (log.replace(counted, failed), totp, rows.replace("passed", "failed").replace("1764460800 0", "59 -"), 0),
+    ]):
+        with trial:
+            it, of, given = Audited(9, 9, 9, 9), due.encode(), (by.encode(), lines.encode())
+            equal((call("audit", *given, it), it.line, it.sessions, it.accepted, it.codes_passed), (0, 0, 1, 1, count))
+            told = written("report", len(of), *given, after=(ctypes.byref(it),))
+            equal(told, (0, of + b"X" * 9, len(of)))
 
 
 def codes(folder: str) -> None:
@@ -1095,12 +1236,12 @@ def fuzzed(folder: str) -> None:
 
 
 def threads(folder: str) -> None:
-    """Eight threads log in at once, each login is accepted, and no two threads use the same memory."""
+    """Eight threads make each call at once, each does what it is to do, and no two threads use the same memory."""
     if program := sanitized("c_library_threads.c", "threads", "thread"):
-        equal(ran([program, "500"]), (0, "8 threads, 4000 logins\n", ""))
+        equal(ran([program, "200"]), (0, "8 threads, 1600 logins, 1600 times all other calls\n", ""))
     if command := watched("eight threads", "--tool=helgrind"):
         program = compiled(TOP / "tests/c_library_threads.c", "threads_plain", "-pthread", library() / "libscramotp.a")
-        equal(ran([*command, program, "20"]), (0, "8 threads, 160 logins\n", ""))
+        equal(ran([*command, program, "10"]), (0, "8 threads, 80 logins, 80 times all other calls\n", ""))
 
 
 if not ARCHIVES:

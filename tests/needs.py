@@ -29,7 +29,7 @@ FOR_PARTS |= {"dpkg-deb": "dpkg", "lintian": "lintian", "mmdebstrap": "mmdebstra
 FOR_PARTS |= {"/usr/include/sasl/saslplug.h": "libsasl2-dev", "/usr/lib/x86_64-linux-gnu/sasl2/libscram.so": "libsasl2-modules"}
 FOR_PARTS |= {"/usr/lib/x86_64-linux-gnu/sasl2/libsasldb.so": "libsasl2-modules-db", "sasl-sample-server": "sasl2-bin"}
 FOR_PARTS |= {"slapd": "slapd", "ldapwhoami": "ldap-utils", "valgrind": "valgrind", "clang": "clang", "c++": "g++"}
-FOR_PARTS |= {"slapadd": "slapd", "saslpasswd2": "sasl2-bin", "ssh-keygen": "openssh-client"}
+FOR_PARTS |= {"slapadd": "slapd", "saslpasswd2": "sasl2-bin", "ssh-keygen": "openssh-client", "pkg-config": "pkgconf", "psql": "postgresql"}
 # The same, of one test each, in packages of hundreds of MB.
 LARGE = {"chromium": "chromium", "go": "golang-go", "rustc": "rustc"}
 ALL = COMMANDS | FOR_PARTS | LARGE
