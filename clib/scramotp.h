@@ -255,7 +255,7 @@ uint32_t scramotp_totp(const void *secret, size_t secret_len, scramotp_totp_toke
  *     1 C GONE
  *     1 E
  *
- * A login that is refused has S NO in place of S OK, with the message that tells it, and then E. Codes come as often as the client likes. */
+ * A login that is refused has S NO in place of S OK, with the message that tells it, and then E. A client may send any number of codes. */
 #define SCRAMOTP_LOG_BEGIN "SCRAMLOG 2\n"
 
 /* The room that the longest line needs. */
