@@ -1221,7 +1221,7 @@ def fuzzed(folder: str) -> None:
     """Random and changed messages in buffers of exactly their length, and NULL where the length is 0: no call reads or writes outside, or
     leaves memory behind. With DURATION in the environment so many seconds of them, each time from the next seed."""
     ends, want = time.monotonic() + int(os.environ.get("DURATION") or 0), {0, 20, 24, 26, 28, 30, 31, 32, 34, 36, 42, 43, 44}
-    want |= {63, 64, 65, 66, 90, 91, 92, 93, 96, 97, 98}
+    want |= {60, 61, 62, 63, 64, 65, 66, 67, 80, 81, 83, 84, 85, 90, 91, 92, 93, 94, 95, 96, 97, 98}
     program, command = sanitized("c_library_fuzz.c", "fuzz", "address,undefined"), watched("random input", "--leak-check=full")
     plain = compiled(TOP / "tests/c_library_fuzz.c", "fuzz_plain")
     for seed in itertools.count(suite.SEED):

@@ -20,6 +20,18 @@ static const char verdict_text[] = "v=6rriTRBi23WpRR/wtup+mMhUZUn/dB5nLTJRsjl95G
 static const char book_text[] =
     "format = 1\ndecoy_key = \"000102030405060708090a0b0c0d0e0f101112131415161718191a1b1c1d1e1f\"\ndecoy_count = 4096\n";
 static const char log_text[] = "SCRAMLOG 1\nS MECHS SCRAM-SHA-256 SCRAM-SHA-1\nC ABORT\nS NO :\nE\n";
+static const char accounts_text[] =
+    "format = 1\ndecoy_key = \"000102030405060708090a0b0c0d0e0f101112131415161718191a1b1c1d1e1f\"\ndecoy_count = 4096\n"
+    "[accounts.user]\nact_as = [\"root\"]\n[accounts.user.sha1]\ncount = 4096\nsalt = \"4125c247e43ab1e93c6dff76\"\n"
+    "stored = \"e9d94660c39d65c38fbad91c358f14da0eef2bd6\"\nserver = \"0fe09258b3ac852ba502cc62ba903eaacdbf7d31\"\n"
+    "[accounts.user.token]\nkind = \"hotp\"\nsecret = \"3132333435363738393031323334353637383930\"\ndigits = 6\nnext = 0\n"
+    "look_ahead = 3\nlimit = 3\nfailures = 0\n";
+static const char session_text[] =
+    "SCRAMLOG 2\n1 S MECHS SCRAM-SHA-256 SCRAM-SHA-1\n2 S MECHS SCRAM-SHA-256 SCRAM-SHA-1\n"
+    "1 C AUTH SCRAM-SHA-1 :n,,n=user,r=fyko+d2lbbFgONRv9qkxdawL\n"
+    "1 S CONT :r=fyko+d2lbbFgONRv9qkxdawL3rfcNHYJY1ZVvWVs7j,s=QSXCR+Q6sek8bf92,i=4096\n2 C GONE\n2 E\n"
+    "1 C RESP :c=biws,r=fyko+d2lbbFgONRv9qkxdawL3rfcNHYJY1ZVvWVs7j,p=v0X8v3Bz2T0CJGbJQyF0X+HI4Ts=\n"
+    "1 S OK :v=rmF9pqV8S7suAoZWja4dJRkFsKQ=\n1 C CODE 755224\n1 S PASS 3 0\n1 C SYNC 287082 359152\n1 S PASS 3 2\n1 C GONE\n1 E\n";
 static const char postgres_text[] =
     "SCRAM-SHA-256$4096:W22ZaJ0SNY7soEsUEjb6gQ==$"
     "WG5d8oPm3OtcPnkdi4Uo7BkeZkBFzpcXkuLmtbsT4qY=:wfPLwcE6nTWhTAmQ7tl2KeoiWGPlZqQxSrmfPwDl2dU=";
@@ -202,7 +214,7 @@ static void log_a_line(void)
 
 static void audit(void)
 {
-    buffer book = changed(book_text), log = changed(log_text);
+    buffer book = changed(below(2) ? book_text : accounts_text), log = changed(below(2) ? log_text : session_text);
     scramotp_audited audited;
     note(scramotp_audit(book.at, book.len, log.at, log.len, &audited));
     buffer rows = {NULL, below(200)};
