@@ -66,17 +66,27 @@ def final_for(login: dict[str, str], first: str, password: bytes = b"pencil", **
 # ---- the library, and the programs that use it
 
 
-def compiled(source: pathlib.Path, to: str, *words: str | pathlib.Path, compiler: str = "cc", standard: str = "c11") -> pathlib.Path:
-    """The program of a file in C or C++, with the static library unless the words name another."""
+def compiled(source: pathlib.Path, to: str, *words: str | pathlib.Path) -> pathlib.Path:
+    """The program of a file in C, with the static library unless the words name another."""
     program = pathlib.Path(MADE.name, to)
     linked = words or (library() / "libscramotp.a",)
-    subprocess.run([compiler, f"-std={standard}", "-O2", *WARNINGS, "-I", TOP / "clib", source, "-o", program, *linked], check=True)
+    subprocess.run(["cc", "-std=c11", "-O2", *WARNINGS, "-I", TOP / "clib", source, "-o", program, *linked], check=True)
     return program
+
+
+def built(examples: pathlib.Path, name: str, *more: str, **environment: str) -> list:
+    """The command of an example, built as its head says, with these words besides."""
+    program = f"{MADE.name}/{examples.name}_{name}"
+    command = re.search("Built by: (.*)", (examples / name).read_text(encoding="utf-8"))[1]
+    for here, there in ("$PWD/", ""), ("clib/out", library()), ("clib/examples", examples), ("-o login", f"-o {program}"):
+        command = command.replace(here, str(there))
+    subprocess.run(["sh", "-c", " ".join([command, *more])], env={**os.environ, **environment}, check=True)
+    return [program]
 
 
 def in_c(examples: pathlib.Path) -> list:
     """The command of the example in C, with the static library."""
-    return [compiled(examples / "login.c", f"{examples.name}_c")]
+    return built(examples, "login.c", "-std=c11", *WARNINGS)
 
 
 def in_shared_c(examples: pathlib.Path) -> list:
@@ -86,7 +96,7 @@ def in_shared_c(examples: pathlib.Path) -> list:
 
 def in_cpp(examples: pathlib.Path) -> list:
     """The command of the example in C++."""
-    return [compiled(examples / "login.cpp", f"{examples.name}_cpp", compiler="c++", standard="c++17")]
+    return built(examples, "login.cpp", "-std=c++17", *WARNINGS)
 
 
 def in_python(examples: pathlib.Path) -> list:
@@ -96,18 +106,12 @@ def in_python(examples: pathlib.Path) -> list:
 
 def in_rust(examples: pathlib.Path) -> list:
     """The command of the example in Rust."""
-    program = pathlib.Path(MADE.name, f"{examples.name}_rs")
-    subprocess.run(["rustc", "-O", "-D", "warnings", "-L", library(), examples / "login.rs", "-o", program], check=True)
-    return [program]
+    return built(examples, "login.rs", "-D", "warnings")
 
 
 def in_go(examples: pathlib.Path) -> list:
     """The command of the example in Go."""
-    program = pathlib.Path(MADE.name, f"{examples.name}_go")
-    flags = {"CGO_CFLAGS": f"-I{TOP / 'clib'}", "CGO_LDFLAGS": f"-L{library()} -Wl,-rpath,{library()}", "GOFLAGS": "-mod=mod"}
-    folders = {"GOCACHE": f"{MADE.name}/go", "GOPATH": f"{MADE.name}/gopath", "HOME": MADE.name}
-    subprocess.run(["go", "build", "-o", program, examples / "login.go"], env={**os.environ, **flags, **folders}, check=True)
-    return [program]
+    return built(examples, "login.go", GOCACHE=f"{MADE.name}/go", GOPATH=f"{MADE.name}/gopath", HOME=MADE.name)
 
 
 # Each example, by the compiler that it needs, from the folder of its source.
@@ -1076,6 +1080,10 @@ def tokens(folder: str) -> None:
     equal((call("hotp_sync", secret, token, CODES[8].encode(), CODES[9].encode()), token.next, token.failures), (0, 10, 0))
     for want, failures in [(43, 1), (43, 2), (44, 2), (44, 2)]:
         equal((call("hotp", secret, token, b"000000"), token.next, token.failures), (want, 10, failures))
+    pairs, clock = Hotp(0, 2, 9, 2, 0, 6), Totp(0, 30, 0, 0, 0, 2**64 - 1, 0, 2, 0, 1, 6)
+    for want, failures, one, two, text in [(43, 1, 9, 8, b""), (43, 2, 8, 8, b"000000"), (44, 2, 8, 9, code(secret, 10).encode())]:
+        equal((call("hotp_sync", secret, pairs, CODES[one].encode(), CODES[two].encode()), pairs.next, pairs.failures), (want, 0, failures))
+        equal((call("totp", secret, clock, ctypes.c_uint64(300), text), clock.last, clock.failures), (want, 2**64 - 1, failures))
     ahead = Totp(0, 30, 0, 2, 4, 2**64 - 1, 0, 5, 0, 1, 6)
     equal((call("totp", secret, ahead, ctypes.c_uint64(300), code(secret, 12).encode()), ahead.last, ahead.drift), (0, 12, 2))
     equal((call("totp", secret, ahead, ctypes.c_uint64(330), code(secret, 14).encode()), ahead.last, ahead.drift), (0, 14, 3))

@@ -4,6 +4,7 @@ import functools
 import os
 import pathlib
 import re
+import shutil
 import subprocess
 import sys
 import tempfile
@@ -27,9 +28,10 @@ MADE = tempfile.TemporaryDirectory(prefix="c_library-")
 
 @functools.cache
 def library() -> pathlib.Path:
-    """The folder with libscramotp.a and libscramotp.so.0, made of the archives."""
+    """The folder with libscramotp.a and libscramotp.so.0, made of the archives, and scramotp.h."""
     folder = pathlib.Path(MADE.name, "lib")
     subprocess.run([sys.executable, TOP / "clib/merge.py", folder, *ARCHIVES], check=True)
+    shutil.copy(TOP / "clib/scramotp.h", folder)
     return folder
 
 

@@ -1,6 +1,7 @@
 /* Logs a user in: reads the client's two messages, a line each, and writes the server's two. The status is 0 if the login is accepted.
  *
  * Usage: login MECHANISM SALT NONCE [ACT_AS ..]
+ * Built by: cc -I clib/out clib/examples/login.c clib/out/libscramotp.a -o login
  *
  * MECHANISM is SCRAM-SHA-1 or SCRAM-SHA-256. There is one account: user, whose password is pencil, with this salt in hexadecimal. It may
  * act as the names ACT_AS. A server takes a fresh NONCE for each login, and keeps the entry of each account instead of passwords.

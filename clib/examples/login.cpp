@@ -1,6 +1,7 @@
 // Logs a user in, as login.c does: reads the client's two messages, a line each, and writes the server's two.
 //
 // Usage: login MECHANISM SALT NONCE [ACT_AS ..]
+// Built by: c++ -I clib/out clib/examples/login.cpp clib/out/libscramotp.a -o login
 #include "scramotp.h"
 
 #include <array>

@@ -1,6 +1,7 @@
 // Logs a user in, as login.c does: reads the client's two messages, a line each, and writes the server's two.
 //
 // Usage: login MECHANISM SALT NONCE [ACT_AS ..]
+// Built by: CGO_CFLAGS="-I$PWD/clib/out" CGO_LDFLAGS="-L$PWD/clib/out -Wl,-rpath,$PWD/clib/out" go build -o login clib/examples/login.go
 package main
 
 // #cgo LDFLAGS: -lscramotp

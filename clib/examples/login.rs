@@ -1,6 +1,7 @@
 // Logs a user in, as login.c does: reads the client's two messages, a line each, and writes the server's two.
 //
 // Usage: login MECHANISM SALT NONCE [ACT_AS ..]
+// Built by: rustc -O -L clib/out clib/examples/login.rs -o login
 use std::ffi::CStr;
 use std::io::{self, BufRead};
 use std::os::raw::c_char;
