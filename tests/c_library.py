@@ -985,26 +985,26 @@ def logs(folder: str) -> None:
 
 
 def log_example(folder: str) -> None:
-    """The example of a server that keeps a log logs both published exchanges as they are recorded, and a refused one, and finds its log
-    clean. Where it logs that a refused login was accepted, the audit names that line."""
+    """The example of a server that keeps a log logs both published exchanges as they are recorded, a refused one, and one of a name without
+    an account, and finds its log clean. Where it logs that a refused login was accepted, the audit names that line."""
     program = compiled(EXAMPLES / "logged.c", "logged")
     for trial, of in each([SHA1, SHA256]):
         with trial:
-            words, first = [program, of["mechanism"], of["salt"], of["nonce"]], of["first"]
-            challenge, wrong, _ = final_for(of, first, b"pencils")
-            begin = ["S MECHS SCRAM-SHA-256 SCRAM-SHA-1", f"C AUTH {of['mechanism']} :{first}", f"S CONT :{challenge}".replace("%", "%25")]
-            right, gone = [f"C RESP :{of['final']}".replace("%", "%25"), f"S OK :{of['verdict']}", "C GONE", "E"], ["C GONE", "E"]
-            refused = [f"C RESP :{wrong}".replace("%", "%25"), "S NO :e=invalid-proof", "E"]
-            forged = [refused[0], "S OK :e=invalid-proof", *gone]
-            for more, final, lines, status, said in [
-                ([], of["final"], begin + right, 0, "clean: accepted 1"), ([], wrong, begin + refused, 0, "clean: accepted 0"),
-                (["forge"], wrong, begin + forged, 1, "line 6 is at fault: 85"),
+            mechanism, first, no = of["mechanism"], of["first"], ["S NO :e=invalid-proof", "E"]
+            nobody = {**of, "salt": decoy_salt(mechanism, "nobody").hex()}, first.replace("user", "nobody")
+            for more, (challenge, final, verdict), sent, last, said in [
+                ([], final_for(of, first), first, ["S OK :{}", "C GONE", "E"], "clean: accepted 1"),
+                ([], final_for(of, first, b"pencils"), first, no, "clean: accepted 0"),
+                ([], final_for(*nobody), nobody[1], no, "clean: accepted 0"),
+                (["forge"], final_for(of, first, b"pencils"), first, ["S OK :e=invalid-proof", "C GONE", "E"], "line 6 is at fault: 85"),
             ]:
-                want = "".join(f"{it}\n" for it in ["SCRAMLOG 2", *(f"1 {it}" for it in lines), said])
-                equal(ran([*words, *more], f"{first}\n{final}\n"), (status, want, ""), said)
-            unread = ["S MECHS SCRAM-SHA-256 SCRAM-SHA-1", f"C AUTH {of['mechanism']} :x%20", "S NO :", "E"]
+                begin = ["S MECHS SCRAM-SHA-256 SCRAM-SHA-1", f"C AUTH {mechanism} :{sent}", f"S CONT :{challenge}"]
+                logged = "".join(f"1 {it}\n" for it in [*begin, f"C RESP :{final}", *last]).replace("%", "%25").format(verdict)
+                answer = ran([program, mechanism, of["salt"], of["nonce"], *more], f"{sent}\n{final}\n")
+                equal(answer, (int(not said.startswith("clean")), f"SCRAMLOG 2\n{logged}{said}\n", ""), said)
+            unread = ["S MECHS SCRAM-SHA-256 SCRAM-SHA-1", f"C AUTH {mechanism} :x%20", "S NO :", "E"]
             want = "".join(f"{it}\n" for it in ["SCRAMLOG 2", *(f"1 {it}" for it in unread), "clean: accepted 0"])
-            equal(ran(words, "x \n"), (0, want, ""))
+            equal(ran([program, mechanism, of["salt"], of["nonce"]], "x \n"), (0, want, ""))
 
 
 # What is in a book for a TOTP token, by the name of each field of its structure; `last` is left out, since no step has passed.
