@@ -338,13 +338,12 @@ def verifier_example(folder: str) -> None:
 def at_postgres(folder: str) -> None:
     """PostgreSQL keeps a verifier that the library has made of a password, and logs in who has that password, and no other."""
     servers = sorted(pathlib.Path("/usr/lib/postgresql").glob("*/bin/initdb"))
-    if not has("logins at PostgreSQL", str(servers[-1]) if servers else "initdb", "psql", root=True):
+    if not has("logins at PostgreSQL", str(servers[-1]) if servers else "initdb", "psql"):
         return
     own = pathlib.Path(folder, "own")
     own.mkdir()
-    for it, user in (folder, None), (own, "nobody"):
-        os.chmod(it, 0o755)
-        os.chown(it, as_nobody()["user"] if user else -1, -1)
+    os.chmod(folder, 0o755)
+    os.chown(own, as_nobody().get("user", -1), -1)
     words = ["-D", own / "data", "-U", "admin", "-A", "trust", "--no-sync", "--no-instructions"]
     equal(ran([servers[-1], *words], **as_nobody()).status, 0, "initdb")
     (own / "data/pg_hba.conf").write_text("local all admin trust\nlocal all all scram-sha-256\n")
