@@ -3,7 +3,7 @@
  *
  * Each call is proved to do what is said here. No call keeps a pointer, or shares anything with another call, so any thread may make any
  * call at any time. Only scramotp_audit and scramotp_report allocate memory, by malloc, and they have freed all when they return. No call
- * wipes memory that had a secret. Each is tested in threads with stacks of 128 KiB.
+ * wipes memory that had a secret. Each call is tested in threads with stacks of 128 KiB.
  *
  * You owe each call pointers to as many bytes as it says, which no other thread writes meanwhile. What a call writes to overlaps none of
  * its other arguments. A pointer is NULL only if the length after it is 0; `at` in scramotp_bytes never is. All else is judged: what a
@@ -330,9 +330,10 @@ typedef struct {
  *     limit = 5
  *     failures = 0
  *
- * `decoy_key` and `decoy_count` are what you give scramotp_decoy. An account has the keys of each mechanism, in `sha1` and `sha256`, and a
- * token, or some of these. A token has the fields of its struct as it then was: of TOTP `hash` is "sha1", "sha256" or "sha512", and `last`
- * is left out if no step has passed. In a name a backslash stands before each double quote and each backslash. docs/FORMATS.md has more.
+ * `decoy_key` and `decoy_count` are what you give scramotp_decoy, and `act_as` the names that you give scramotp_server_final, at most 16.
+ * An account has the keys of each mechanism, in `sha1` and `sha256`, and a token, or some of these. A token has the fields of its struct as
+ * it then was: of TOTP `hash` is "sha1", "sha256" or "sha512", and `last` is left out if no step has passed. In a name a backslash stands
+ * before each double quote and each backslash.
  *
  * Numbers: 60 to 67 of the book, 87 for more lines, and 99, which only a lack of memory should bring; with these the struct is as it was.
  * Else 80 to 86, why the first line at fault is at fault, and the struct has its number and 0 as each count. */
@@ -344,8 +345,8 @@ uint32_t scramotp_audit(const void *book, size_t book_len, const void *log, size
  *     6 1 accepted user - SCRAM-SHA-1 -
  *     8 1 passed user - SCRAM-SHA-1 1764460800 0
  *
- * with the line, the session, what happened, the name, the name to act as, the mechanism, and why it happened or what passed when; `-`
- * stands for none. docs/FORMATS.md has all that can happen, and each reason.
+ * with the line, the session, what happened, the name, the name to act as, the mechanism, and the reason, or the moment and counter of a
+ * code; `-` stands for none. docs/FORMATS.md has all that can happen, and each reason.
  *
  * Numbers: as scramotp_audit, with the struct as there, and the rows are written also with 80 to 87; but 93 if the room is too short. Then
  * `out_len` has the length of the rows, and nothing else is written, so you can call again. With 60 to 67 and 99 all is as it was. */
