@@ -3,7 +3,8 @@
 
 PROGRAM is not run. The environment's CLIB names the folder with the archives of the library; without it they are those that `rt lib` made
 in crates/c_library/out. Each example is compiled with warnings as errors, and logs users in with messages that are in RFC 5802 and RFC
-7677, or were made here with Python's hmac and hashlib. Needs cc; c++, rustc and go for the examples in their languages.
+7677, or were made here with Python's hmac and hashlib. Needs cc; c++, rustc and go for the examples in their languages; and PostgreSQL and
+Dovecot for what they say of its verifiers.
 """
 import base64
 import ctypes
