@@ -30,7 +30,7 @@ EDITED_BY_TESTS = ("tools/", "hosts/", "man/", "completions/", "packaging/", "do
 EDITED_BY_TESTS += ("tests/note_files.c", "tests/turn_clock.c", "tests/pass_calls.c", "tests/c_library_", "tests/power_model.py")
 EDITED_BY_TESTS += ("tests/needs.py", "README.md")
 
-FUNCTION = re.compile(r"( *)(?:pub(?:\([a-z ]+\))? )?(?:(?:const|unsafe) )*fn (\w+)")
+FUNCTION = re.compile(r'( *)(?:pub(?:\([a-z ]+\))? )?(?:(?:const|unsafe|extern "C") )*fn (\w+)')
 NAME = re.compile(r"[\w'-]+")
 IMPL = re.compile(r"impl(?:<.*?>)? (?:(?:\w+::)*(\w+)(?:<(.*?)>)? for )?(?:\w+::)*(\w+)")
 
