@@ -15,7 +15,7 @@ UNPROVED = out/unproved/scramotp
 # Where make time says what each part took.
 time: TIMES = out/times.csv
 # The kit with which all was last proved, as rt version prints it; README.md and docs/PROMISES.md name it too.
-KIT = rattle-kit-13b logic dac8208d650f15bf
+KIT = rattle-kit-13f logic dac8208d650f15bf
 # What the program stands on.
 LIBRARIES = mac_core otp_core scram_text scram_ends book_format account_book book_keeper book_file command_line command_words \
 	log_grammar sasl_log log_report sasl_desk command_io account_commands commands
