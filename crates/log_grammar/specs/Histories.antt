@@ -17,7 +17,7 @@ HasNoReply account t = t.account ≡ account → t.reply ≡ None
 abbrev pub HasReply : List ℕ → AccountAttempt → Type 0
 HasReply account t = t.account ≡ account → (reply : Reply) × (t.reply ≡ Some reply)
 
--- an account without a token has no reply to any code; one with a token has a reply to each, and its attempts, in order, are a
+-- an account without a token has no reply to any code; one with a token has a reply to each, and its attempts, put latest first, are a
 -- legal history of the token
 abbrev pub IsHistory : Option TokenFields → List ℕ → List AccountAttempt → Type 0
 IsHistory None account told = AllByRecursion (HasNoReply account) told

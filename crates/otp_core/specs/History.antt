@@ -7,7 +7,7 @@ use Rattle.otp_core.specs.Reply.{IsDueReply, failures_after}
 use Rattle.otp_core.specs.declared.token.kinds.TokenFields.{TokenFields}
 use Rattle.otp_core.specs.declared.token.kinds.TokenFields.TheVariants.{Hotp, Totp}
 
--- each reply of a history is the one due after the attempts before it, and each moment is in its range
+-- each reply of a history, which has the latest attempt first, is the one due after those before it, and each moment is in its range
 abbrev pub IsLegal : (start : TokenFields) → (history : List Attempt) → Type 0
 IsLegal start [] = Unit {0}
 IsLegal start (a ∷ before) = (a.moment ≤ max_moment) × IsDueReply start before a.moment a.sent a.reply × IsLegal start before
