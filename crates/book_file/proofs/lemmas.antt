@@ -1,2 +1,3 @@
--- The lemmas that the proofs of this crate cite.
+-- Main lemma, `all_were_read` (WholeReads): if fewer bytes than the limit were read from a file, they are all its bytes.
+-- Cited by `read_all` of src/file.rt.
 pub mod WholeReads
