@@ -13,13 +13,14 @@ import pathlib
 import shutil
 import sys
 import tempfile
+import time
 from concurrent.futures import ThreadPoolExecutor
 from typing import Any
 
 import suite
 from checks import equal, holds
-from processes import Answer, ran
-from suite import BOOK_OF_USER, CODES, MOST_BYTES, ROOT, as_nobody, each, fault_text, hotp, is_root, nobody, read_book, seen, token
+from processes import LIMIT_OF_LINES, Answer, ran
+from suite import BOOK_OF_USER, CODES, ROOT, as_nobody, each, fault_text, hotp, is_root, nobody, read_book, seen, token
 
 # A copy of the program that the user nobody can run, wherever the program is.
 COPY = tempfile.TemporaryDirectory()
@@ -204,18 +205,6 @@ def unreadable(folder: str) -> None:
     equal(pathlib.Path(book).read_text(), BOOK, "the book")
 
 
-def longest(folder: str) -> None:
-    """A book of 16777216 bytes is read, and a book of one more byte is not."""
-    book = os.path.join(folder, "book")
-    for trial, command in each(GOOD):
-        with trial:
-            text = BOOK + "#" * (MOST_BYTES - len(BOOK))
-            put(book, text + "#")
-            says(f"{command} on one byte more", well(command, book), 3, "", f"cannot read {book}")
-            put(book, text)
-            succeeds(command, book)
-
-
 def unwritable(folder: str) -> None:
     """If the folder may not be written, the old book stays, and no change is reported."""
     book, new = put(os.path.join(folder, "book")), os.path.join(folder, "new")
@@ -283,12 +272,15 @@ def fresh_random_bytes(folder: str) -> None:
 
 
 def unsaved(folder: str) -> None:
-    """Nothing is saved for the reply LOCKED, for a command that is refused, or for an empty input."""
+    """Nothing is saved for the reply LOCKED, for a command that is refused, or for an empty input. What a killed run has left of a save is
+    removed all the same."""
     book = put(os.path.join(folder, "book"), LOCKED)
     before = seen(book)
     user, bare = {"book": book, **GOOD["verify"][0]}, {"book": book, "name": "bare"}
     says("a locked token", run("verify", user, "\n".join(CODES[:2])), 1, "LOCKED 5\nLOCKED 5\n")
+    put(f"{book}.new")
     says("no input", run("verify", user), 0, "")
+    equal(sorted(os.listdir(folder)), ["book"], "the folder")
     says("no token", run("unlock", bare), 1, "", "no token")
     says("a name that is taken", run("enrol", bare, "pencil"), 1, "", "name is taken")
     equal(seen(book), before, "the book after runs that have nothing to save")
@@ -473,17 +465,20 @@ def hard_links(folder: str) -> None:
 
 
 def held_by_another(folder: str) -> None:
-    """Commands that wait in vain for a lock leave the book as it was, and no other file."""
+    """Commands wait for 30 seconds for a lock. If that is in vain, they leave the book as it was, and no other file."""
     book, new = put(os.path.join(folder, "book")), os.path.join(folder, "new")
     runs = [*[(command, book) for command in GOOD], ("enrol", new)]
     with open(book) as old, open(put(new + ".new", "")) as next_text, ThreadPoolExecutor(len(runs)) as pool:
         for held in [old, next_text]:
             fcntl.flock(held, fcntl.LOCK_EX)
+        began = time.monotonic()
         waiting = [pool.submit(well, *run) for run in runs]
+    waited = time.monotonic() - began
     for trial, ((command, path), run) in each(zip(runs, waiting)):
         with trial:
             fault = f"other runs held {path} for 30 seconds\nscramotp: cannot read {path}"
             says(f"{command} on a held book", run.result(), 3, "", fault)
+    holds(29 < waited < 30 + LIMIT_OF_LINES, "the runs did not wait for 30 seconds, but for", waited)
     equal(sorted(os.listdir(folder)), ["book", "new.new"], "the folder")
     equal(pathlib.Path(book).read_text(), BOOK, "the book")
 

@@ -1,11 +1,11 @@
 #!/usr/bin/env python3
-"""Tests of the commands on an account book that need processes: runs at the same time, runs that are killed, links, modes, access lists, a
-save that can't be made, a lock that another run keeps, which files a run opens, files that take the book's place, and how paths are shown.
+"""Tests of the commands on an account book that need processes: runs at the same time, runs that are killed, links, modes, access lists,
+which files a run opens, files that take the book's place, and how paths are shown.
 
 Twenty runs at once with one code, of which one passes; six at once that make one book, of which two are killed; two hundred runs that are
 killed before one of their calls. A book that another run holds, and that it is held until the last save; files, links and pipes that take
-its place while a run waits; keys that are made before the book is held; a text that is too long; paths with control characters; and a reply
-that is printed while the input is still open. Needs `cc`.
+its place while a run waits; keys that are made before the book is held; a text that is too long; and paths with control characters. Needs
+`cc`.
 """
 import ctypes
 import errno
@@ -23,7 +23,7 @@ from typing import Any
 import suite
 from checks import equal, holds
 from kills import kill_before_any_call
-from processes import LIMIT_OF_LINES, Running, processor_time, ran, taken, until, whole
+from processes import Running, processor_time, ran, taken, until, whole
 from suite import (
     BOOK_OF_USER, CODES, MOST_BYTES, PROGRAM, BookFolder, code, each, fault_text, hotp, is_locked, prints, read_book, seen, verify_words,
 )
@@ -129,32 +129,6 @@ def access_lists(folder: str) -> None:
     equal(mode_of(here.book), "600", "the mode after a save")
 
 
-def unwritable(folder: str) -> None:
-    """A save that can't be made leaves the old book, and nothing is printed."""
-    here = BookFolder(folder, BOOK)
-    here.next_text.mkdir()
-    here.verifies(FIRST_CODE, 3, "", f"cannot write {here.book}")
-    equal(here.book.read_text(), BOOK, "the book after a save that can't be made")
-    here.next_text.rmdir()
-    here.verifies(FIRST_CODE, *PASSES)
-
-
-def locked_by_another(folder: str) -> None:
-    """A run waits for up to 30 seconds for the lock, and goes on as soon as it becomes free."""
-    here = BookFolder(folder, BOOK)
-    lock = locked(here.book)
-    begun = time.monotonic()
-    here.verifies(FIRST_CODE, 3, "", f"other runs held {here.book} for 30 seconds\nscramotp: cannot read {here.book}")
-    waited = time.monotonic() - begun
-    holds(29 < waited < 30 + LIMIT_OF_LINES, "the run did not wait for 30 seconds, but for", waited)
-    run = whole(verify_words(here.book), FIRST_CODE)
-    run.waits()
-    time.sleep(0.5)
-    run.goes_on()
-    os.close(lock)
-    run.ends(*PASSES)
-
-
 def locked_folder(folder: str) -> None:
     """A run does not wait for a run on another book in the folder, or for a lock on the folder."""
     here = BookFolder(folder, BOOK)
@@ -169,7 +143,8 @@ def locked_folder(folder: str) -> None:
 
 
 def one_lock(folder: str) -> None:
-    """The book is opened once, and the file of each next text once: the run keeps its lock, even when it saves."""
+    """The book is opened once, and the file of each next text once: the run keeps its lock, even when it saves, while its input is open.
+    Its reply is printed at once."""
     here = BookFolder(folder, BOOK)
     kinds = {0x20: "open", 0x80: "take its place"}
     libc = ctypes.CDLL(None)
@@ -322,18 +297,6 @@ def pipes(folder: str) -> None:
         turning.join()
 
 
-def left_by_a_killed_run(folder: str) -> None:
-    """The next run removes the file of a next text that a killed run left, even if it saves nothing."""
-    here = BookFolder(folder, BOOK)
-    here.next_text.write_text(BOOK)
-    here.verifies("", 0, "")
-    here.has_only("book")
-    here.book.unlink()
-    here.next_text.write_text(BOOK)
-    start_enrol(here.book, "user", 1).ends(0, "enrolled user\n")
-    here.has_only("book")
-
-
 def too_long(folder: str) -> None:
     """A text that no command would read is not saved: here the accounts take three times the bytes when they are written."""
     here = BookFolder(folder, BOOK, "[accounts]\n", *(f"a{number} = {{}}\n" for number in range(560000)))
@@ -367,14 +330,6 @@ def input_limit(folder: str) -> None:
     here = BookFolder(folder, BOOK)
     here.verifies("x\n" + "a" * (MOST_BYTES - 2), 1, "FAIL 5\nFAIL 5\n")
     here.verifies("x\n" + "a" * (MOST_BYTES - 1), 3, "FAIL 5\n", "cannot read input")
-
-
-def told_at_once(folder: str) -> None:
-    """A reply is printed while the input is still open."""
-    here = BookFolder(folder, BOOK)
-    run = Running(verify_words(here.book))
-    run.prints("PASS 5 0\n", f"{FIRST_CODE}\n")
-    run.ends(0)
 
 
 suite.run_all()

@@ -14,7 +14,7 @@ from expected import DATA, HASHES, keys_of
 from help_pages import example_ran, help_of, listed_commands
 from processes import ran
 from suite import (
-    BOOK_OF_USER, KEYS_OF_PENCIL, MOST_BYTES, PROGRAM, SALT, SECRET, SEEDS, BookFolder, each, fault_text, hotp, prints, read_book, totp,
+    BOOK_OF_USER, KEYS_OF_PENCIL, PROGRAM, SALT, SECRET, SEEDS, BookFolder, each, fault_text, hotp, prints, read_book, totp,
 )
 
 # 64 bytes
@@ -227,13 +227,6 @@ def examples_alone(folder: str) -> None:
                 runs_example(place, needed)
 
 
-def input_limit(folder: str) -> None:
-    """The first line may have 16777216 bytes, and is then a bad password."""
-    words = keys("SCRAM-SHA-1", SALT, "1")
-    check(words, b"a" * MOST_BYTES, 2, fault="bad password")
-    check(words, b"a" * (MOST_BYTES + 1), 3, fault="cannot read input")
-
-
 def server_signature(folder: str) -> None:
     """The server key makes the signature that RFC 7677, section 3, prints for its example."""
     auth_message = (
@@ -281,11 +274,8 @@ def pairs_of_codes(folder: str) -> None:
             here.put(BOOK_OF_USER, hotp(3, 3, sync_ahead))
             here.verifies(text, 1, printed)
             here.token_has(sync_ahead=sync_ahead or 0)
-
-
-def a_far_pair(folder: str) -> None:
-    """Two codes in a row beyond the window of one code move the token on, and count no failure."""
-    here = BookFolder(folder, BOOK_OF_USER, hotp(3, 3, 8))
+    # Beyond the window of one code a pair counts no failure.
+    here.put(BOOK_OF_USER, hotp(3, 3, 8))
     here.verifies(FAR_PAIR, 0, "PASS 5 9\n")
     here.token_has(next=10, failures=0)
 

@@ -151,7 +151,8 @@ def lengths_of_words(folder: str) -> None:
 def lengths_of_files(folder: str) -> None:
     """A book of 16777216 bytes is read, and one of one more byte is not. So is a password's line: with 16777216 bytes it is read, and is
     a bad password."""
-    for trial, (name, size) in each(itertools.product(["login", "hall"], [MOST_BYTES, MOST_BYTES + 1])):
+    of_books = ["login", "hall", "enrol", "verify", "unlock"]
+    for trial, (name, size) in each(itertools.product(of_books, [MOST_BYTES, MOST_BYTES + 1])):
         with trial:
             command = command_of(name)
             prepare(folder, command)
@@ -159,13 +160,13 @@ def lengths_of_files(folder: str) -> None:
             read, unread = (0, command.printed, ""), (3, "", f"scramotp: cannot read {folder}/book\n")
             equal(ran(command.in_folder(folder), command.text), read if size == MOST_BYTES else unread, name, size)
     bad, unread = (2, "", "scramotp: bad password\n"), (3, "", "scramotp: cannot read input\n")
-    enrol = command_of("enrol")
-    for trial, (size, want) in each([(MOST_BYTES, bad), (MOST_BYTES + 1, unread)]):
+    for trial, (name, (size, want)) in each(itertools.product(["enrol", "keys"], [(MOST_BYTES, bad), (MOST_BYTES + 1, unread)])):
         with trial:
-            prepare(folder, enrol)
-            equal(ran(enrol.in_folder(folder), b"a" * size), want, f"a password of {size} bytes")
+            command = command_of(name)
+            prepare(folder, command)
+            equal(ran(command.in_folder(folder), b"a" * size), want, f"a password of {size} bytes")
             equal(pathlib.Path(folder, "book").read_text(), BOOK, f"the book after a password of {size} bytes")
-    print_count("books and passwords", 6)
+    print_count("books and passwords", 14)
 
 
 class Fed(Running):
