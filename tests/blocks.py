@@ -13,7 +13,7 @@ import processes
 from checks import equal, holds
 from expected import keys_of
 from processes import Answer, Running
-from suite import SECRET, TOP, program_on_path, read_book, seen, totp
+from suite import SECRET, TOP, private, program_on_path, read_book, seen, totp
 
 TOOLS = TOP / "tools"
 # The user of the recipes, whose name has to be quoted in a book.
@@ -122,12 +122,9 @@ def shows(folder: str | Path, block: str) -> str:
 
 def with_tools(folder: str | Path, text: str) -> Path:
     """Makes in a folder a link to the tools, and a book with this text. Returns the book's path."""
-    link, book = Path(folder, "tools"), Path(folder, "book.toml")
-    if not link.is_symlink():
-        link.symlink_to(TOOLS)
-    book.write_text(text)
-    book.chmod(0o600)
-    return book
+    if not Path(folder, "tools").is_symlink():
+        Path(folder, "tools").symlink_to(TOOLS)
+    return private(Path(folder, "book.toml"), text)
 
 
 def stand_in(folder: str | Path, command: str, script: str) -> Path:

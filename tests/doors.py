@@ -13,7 +13,6 @@ import itertools
 import os
 import poplib
 import re
-import signal
 import smtplib
 import ssl
 import subprocess
@@ -29,10 +28,10 @@ from blocks import Page, filled
 from checks import equal, holds
 from clients import Account, book
 from limits import limit
-from mail_servers import Door, Server, dovecot_auth, free_port, listens, postfix
+from mail_servers import Door, Server, door_of, dovecot_auth, free_port, listens, postfix
 from needs import EXIM, OF_EXIM
 from processes import Answer, Running, ran, until
-from suite import PROGRAM, TOP, has, program_on_path
+from suite import PROGRAM, TOP, enrols, has, program_on_path, within
 
 # Gives Exim a user that the machine has not.
 WRAPPER = "/usr/lib/x86_64-linux-gnu/libnss_wrapper.so"
@@ -62,18 +61,17 @@ def book_of_users(folder: str) -> str:
     """A book with two users, each with keys for both mechanisms, and another name to act as."""
     path = Path(folder, "users.toml")
     for name, password in [(NAME, PASSWORD), (ODD, "comma")]:
-        equal(ran([PROGRAM, "enrol", "--book", path, "--name", name], f"{password}\n").status, 0, "enrol")
+        enrols(path, name, password)
     before, middle, after = path.read_text().split("act_as = []")
     return f'{before}act_as = ["{OTHER}"]{middle}act_as = ["{LIST}"]{after}'
 
 
 @contextlib.contextmanager
-def door_in(folder: str, accepted: int, *flags: str) -> Iterator[Door]:
-    """A door over that book, for servers that run as other users."""
+def door_in(folder: str, accepted: int, *flags: str, text: str = "") -> Iterator[Door]:
+    """A door over that book, or one with this text, for servers that run as other users."""
     os.chmod(folder, 0o711)
-    door = Door(folder, book_of_users(folder), "--plain", "--mode", "666", *flags)
-    yield door
-    door.ends(accepted)
+    with door_of(folder, text or book_of_users(folder), accepted, "--plain", "--mode", "666", *flags) as door:
+        yield door
 
 
 @contextlib.contextmanager
@@ -106,8 +104,7 @@ def exim_words() -> tuple[list[str], dict[str, str]]:
 @contextlib.contextmanager
 def exim(folder: str, name: str = "exim", door: str = "auth") -> Iterator[int]:
     """Exim, in a folder of this name, with the authenticators of the page for this door. Gives its port."""
-    place, files, port = Path(folder, name), certificate(folder), free_port()
-    place.mkdir()
+    place, files, port = within(folder, name), certificate(folder), free_port()
     words, variables = exim_words()
     own = f"""keep_environment =
 primary_hostname = localhost
@@ -189,9 +186,8 @@ mail_path = ~/mail
 def dovecot(folder: str, root: Path | None = None, door: str = "auth", more: str = "") -> Iterator[tuple[int, int]]:
     """Dovecot's servers of IMAP and POP3, with the settings of the page for this door, and more. Gives their ports. If a root is given,
     they are of version 2.4, and see of this machine what is there alone."""
-    place, port, other = Path(folder, "dovecot"), free_port(), free_port()
+    place, port, other = within(folder, "dovecot"), free_port(), free_port()
     certificate(folder)
-    place.mkdir()
     place.chmod(0o755)
     inside = as_in(root, folder)
     page = configuration("Dovecot", {"/run/scramotp/auth": f"{inside}/{door}", "/run/scramotp/master": f"{inside}/master"}) + more
@@ -316,8 +312,7 @@ def differences_from_dovecot(folder: str) -> None:
         return [*hello, f"AUTH\t1\t{mechanism}\t{settings}{more}\tresp={b64encode(message).decode()}"]
 
     os.chmod(folder, 0o711)
-    Path(folder, "dovecot").mkdir()
-    with Door(folder, book([user]), "--plain").served() as door, dovecot_auth(f"{folder}/dovecot", user) as other:
+    with Door(folder, book([user]), "--plain").served() as door, dovecot_auth(within(folder, "dovecot"), user) as other:
         for what, lines, ours, theirs in [
             ("a login without a first message", [*hello, auth], "CONT", "CONT"),
             ("an empty first message", [*hello, f"{auth}\tresp="], "CONT", "CONT"),
@@ -358,7 +353,7 @@ def dialogue(path: Path, account: Account, mechanism: str, settings: str, first:
         while (words := server.line().split("\t"))[0] == "CONT":
             said, response = b64decode(words[2]).decode(), left.pop(0)
             if said.startswith("r="):
-                it = account.exchange("fyko", said.split(",")[0].removeprefix("r=fyko"))
+                it = account.answers(said)
                 signature, response = it.signature, (it.wrong_final if response == WRONG else it.final).encode()
             found.append("CONT " + said.split("r=")[0].replace(signature, "SIGNED"))
             server.respond(1, response)
@@ -371,11 +366,10 @@ def whole_logins_as_dovecot(folder: str) -> None:
     if not has("whole logins at Dovecot's auth service", "dovecot", root=True):
         return
     user, right, wrong = Account("user", "SCRAM-SHA-256"), b"password of user", b"x"
-    first, ask_both = user.exchange("fyko", "").first.encode(), ["CONT Username:", "CONT Password:"]
+    first, ask_both = user.first.encode(), ["CONT Username:", "CONT Password:"]
     accepted, refused = ["OK user=user"], ["FAIL user=user"]
     os.chmod(folder, 0o711)
-    Path(folder, "dovecot").mkdir()
-    with Door(folder, book([user]), "--plain").served() as door, dovecot_auth(f"{folder}/dovecot", user) as other:
+    with Door(folder, book([user]), "--plain").served() as door, dovecot_auth(within(folder, "dovecot"), user) as other:
         for mechanism, settings, message, responses, due in [
             ("SCRAM-SHA-256", "", first, [b"", b""], ["CONT ", "CONT v=SIGNED", *accepted]),
             ("SCRAM-SHA-256", "", None, [first, b"", b""], ["CONT ", "CONT ", "CONT v=SIGNED", *accepted]),
@@ -418,12 +412,11 @@ def logs_in(port: int, account: Account, together: Barrier, challenged: Callable
     with smtplib.SMTP("localhost", port, timeout=limit(60)) as client:
         client.ehlo()
         together.wait(limit(60))
-        first = b64encode(account.exchange("fyko", "").first.encode()).decode()
-        status, challenge = client.docmd("AUTH", f"{account.mechanism} {first}")
+        status, challenge = client.docmd("AUTH", f"{account.mechanism} {b64encode(account.first.encode()).decode()}")
         if status != 334:
             return status
         challenged()
-        it = account.exchange("fyko", b64decode(challenge).decode().split(",")[0].removeprefix("r=fyko"))
+        it = account.answers(b64decode(challenge).decode())
         status, signature = client.docmd(b64encode(it.final.encode()).decode())
         if status != 334:
             return status
@@ -442,7 +435,7 @@ def many_at_postfix(folder: str) -> None:
 
     def challenged() -> None:
         if next(number) in (40, 140):
-            door.run.process.send_signal(signal.SIGHUP)
+            door.renews()
 
     with postfix(folder, settings) as port, ThreadPoolExecutor(100) as pool:
         logins = [pool.submit(logs_in, port, user, together, challenged) for _ in range(200)]
@@ -486,8 +479,7 @@ OF_IMAP = [(over("imap", by_gsasl), SCRAMS + ["PLAIN"]), (over("imap", by_curl),
 def mailboxes(folder: str, accepted: int, root: Path | None = None) -> Iterator[tuple[Door, Path, int, int]]:
     """Dovecot over a door, if a root is given the one there. Gives that, the folder in which each user has one, and the ports of IMAP and
     POP3."""
-    homes = Path(folder, "homes")
-    homes.mkdir()
+    homes = within(folder, "homes")
     homes.chmod(0o777)
     userdb = f"uid=65534 gid=65534 home={as_in(root, homes)}/%u"
     with door_in(folder, accepted, "--master", f"{folder}/master", "--userdb", userdb) as door, dovecot(folder, root) as (imap, pop3):
@@ -527,8 +519,7 @@ def imap_answers(folder: str) -> None:
 def door_and_dovecot(folder: str, name: str) -> Iterator[tuple[Door, int, int]]:
     """A door in a folder of this name, which hears an address no more after two refused logins, and Dovecot over it. Gives its ports of
     IMAP and POP3."""
-    place = Path(folder, name)
-    place.mkdir()
+    place = within(folder, name)
     for it in folder, place:
         os.chmod(it, 0o711)
     userdb = f"uid=65534 gid=65534 home={place}/home"
@@ -557,15 +548,11 @@ def told_by_imap(door: Door, port: int, mechanism: str, messages: list[str], bef
         client.shutdown()  # without LOGOUT, to which Dovecot does not answer while there is no door
 
 
-@contextlib.contextmanager
-def door_of_few_rounds(folder: str, *flags: str) -> Iterator[Door]:
-    """A door over a book whose account has a count of 4095, less than RFC 5802, section 5.1, asks for. At the end it has let in once."""
-    os.chmod(folder, 0o711)
+def few_rounds(folder: str) -> str:
+    """A book whose account has a count of 4095, less than RFC 5802, section 5.1, asks for."""
     path = Path(folder, "users.toml")
-    equal(ran([PROGRAM, "enrol", "--book", path, "--name", NAME, "--count", "4095"], f"{PASSWORD}\n").status, 0, "enrol")
-    door = Door(folder, path.read_text(), "--plain", "--mode", "666", *flags)
-    yield door
-    door.ends(1)
+    enrols(path, NAME, PASSWORD, "--count=4095")
+    return path.read_text()
 
 
 FIRST = f"n,,n={NAME},r=x".encode()
@@ -598,14 +585,14 @@ def gives_up_by_smtp(folder: str, port: int, door: Door, outcome: str) -> None:
 def low_count_at_postfix(folder: str) -> None:
     """Postfix does not say to the door that a client has given up, so the login takes too long."""
     if has("a low count at Postfix", "postfix", "openssl", root=True):
-        with door_of_few_rounds(folder, "--patience", "1") as door, postfix(folder, postfix_settings(folder)) as port:
+        with door_in(folder, 1, "--patience", "1", text=few_rounds(folder)) as door, postfix(folder, postfix_settings(folder)) as port:
             gives_up_by_smtp(folder, port, door, "late")
 
 
 def low_count_at_exim(folder: str) -> None:
     """Exim says at once that a client has given up."""
     if has_exim("a low count at Exim", "openssl"):
-        with door_of_few_rounds(folder) as door, exim(folder) as port:
+        with door_in(folder, 1, text=few_rounds(folder)) as door, exim(folder) as port:
             gives_up_by_smtp(folder, port, door, "abandoned")
 
 
@@ -614,7 +601,7 @@ def low_count_at_dovecot(folder: str) -> None:
     if not has("a low count at Dovecot", "dovecot", "/usr/lib/dovecot/imap-login", "openssl", root=True):
         return
     flags = ["--master", f"{folder}/master", "--userdb", f"uid=65534 gid=65534 home={folder}/home"]
-    with door_of_few_rounds(folder, *flags) as door, dovecot(folder) as (port, _):
+    with door_in(folder, 1, *flags, text=few_rounds(folder)) as door, dovecot(folder) as (port, _):
         Path(folder, "home").mkdir()
         os.chown(Path(folder, "home"), 65534, 65534)
         with imaplib.IMAP4("localhost", port, timeout=20) as client:
@@ -697,10 +684,10 @@ def root_with_dovecot(folder: str) -> Path | None:
 def logins_at_dovecot_2_4(folder: str) -> None:
     """The next version of Dovecot, with the same settings, if Debian's programs can be fetched."""
     if root := root_with_dovecot(folder):
-        (root / "here").mkdir()
-        with mailboxes(str(root / "here"), 14, root) as (door, homes, imap, pop3):
-            try_clients(str(root / "here"), imap, door, OF_IMAP)
-            try_clients(str(root / "here"), pop3, door, [(over("pop3", by_curl), BY_PASSWORD)])
+        here = str(within(root, "here"))
+        with mailboxes(here, 14, root) as (door, homes, imap, pop3):
+            try_clients(here, imap, door, OF_IMAP)
+            try_clients(here, pop3, door, [(over("pop3", by_curl), BY_PASSWORD)])
             services = re.findall(" service=([a-z0-9]+) ", "".join(door.notes("login")))
             equal(sorted({*services}), ["imap", "pop3"], "the services in the journal")
         holds((homes / NAME / "mail").is_dir(), "the mailbox is not where it should be", [*homes.rglob("*")])
@@ -746,8 +733,7 @@ def two_doors(folder: str, more: str = "") -> Iterator[None]:
     certificate(folder)
     Path(folder, "hosts").symlink_to(TOP / "hosts")
     for book_name, (name, password) in BOOKS.items():
-        words = [PROGRAM, "enrol", "--book", f"{folder}/{book_name}.toml", "--name", name]
-        equal(ran(words, f"{password}\n").status, 0, "enrol")
+        enrols(f"{folder}/{book_name}.toml", name, password)
     block = filled(PAGE.block("Several books"), {"--mode 660": "--mode 666 --delay 0.05 @"})
     for it in BOOKS:
         block = block.replace("@", more.replace("@", it), 1)

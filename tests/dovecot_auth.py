@@ -12,7 +12,6 @@ import re
 import resource
 import signal
 import socket
-import stat
 import sys
 import time
 from base64 import b64decode, b64encode
@@ -29,7 +28,7 @@ from expected import proved
 from limits import limit
 from mail_servers import GREETING, SETTINGS, Door, Server, door_of
 from processes import Running, ran, until
-from suite import PROGRAM, TOP, each, has, program_on_path
+from suite import PROGRAM, TOP, each, has, mode_of, private, program_on_path, within
 
 USER = Account("user", "SCRAM-SHA-256")
 OLD = Account("old=user, odd", "SCRAM-SHA-1")
@@ -48,7 +47,7 @@ def greeting(folder: str) -> None:
             rest = "\n".join(server.greeting[3:])
             holds(re.fullmatch(rf"SPID\t{door.run.process.pid}\nCUID\t{number}\nCOOKIE\t[0-9a-f]{{32}}\nDONE", rest), "its end", rest)
         holds(one.greeting[5] != other.greeting[5], "two cookies are the same", one.greeting[5])
-        equal(stat.S_IMODE(os.lstat(door.socket).st_mode), 0o660, "the mode of the socket")
+        equal(mode_of(door.socket), 0o660, "the mode of the socket")
 
 
 def hostile_lines(folder: str) -> None:
@@ -141,14 +140,13 @@ def servers_that_do_not_read(folder: str) -> None:
         until(lambda: door.notes("cut_off"), "the server should be cut off")
         holds('why="does not read"' in door.notes("cut_off")[0], "another reason", door.notes("cut_off"))
         equal(other.logs_in(1, USER), OK.format(1), "another login after that")
-    door.run.process.send_signal(signal.SIGTERM)
-    equal(door.status(), 0, "the status of the door")
+    door.stops()
     door.audits()
 
 
 def outcomes(folder: str) -> None:
     """What a server is told of each login, and when: a refusal comes only after a while. The journal says the same of each."""
-    first = USER.exchange("fyko", "").first.encode()
+    first = USER.first.encode()
     with door_of(folder, BOOK.replace("act_as = []", 'act_as = ["other"]', 1), 5, "--delay", "0.5") as door, Server(door) as server:
         equal(server.logs_in(1, USER), OK.format(1), "the right password")
         equal(server.logs_in(2, OLD), f"OK\t2\tuser={OLD.name}", "the right password of an odd name")
@@ -161,8 +159,7 @@ def outcomes(folder: str) -> None:
         server.respond(5, first)
         equal(server.goes_on(5, USER), OK.format(5), "the first message in a line of its own")
         server.send(f"AUTH\t6\tSCRAM-SHA-256\tservice=imap\tsecured\tfinal-resp-ok\tresp={b64encode(first).decode()}")
-        challenge = server.challenge(6).decode()
-        it = USER.exchange("fyko", challenge.split(",")[0].removeprefix("r=fyko"))
+        it = USER.answers(server.challenge(6).decode())
         server.respond(6, it.final.encode())
         equal(server.line(), f"OK\t6\tuser=user\tresp={b64encode(f'v={it.signature}'.encode()).decode()}", "the last message with OK")
         for ident, message, due in [(7, b"n,a=other,n=user,r=fyko", "OK\t7\tuser=other"), (8, b"n,a=root,n=user,r=fyko", FAIL.format(8))]:
@@ -288,13 +285,13 @@ def many_at_once(folder: str) -> None:
         one = servers.enter_context(Server(door))
         for ident in range(200):
             one.begin(ident, USER)
-        door.run.process.send_signal(signal.SIGHUP)
+        door.renews()
         equal(sorted(all_of(one, 200)), sorted(OK.format(ident) for ident in range(200)), "the logins on one connection")
         many = [servers.enter_context(Server(door)) for _ in range(200)]
         for _ in range(2):
             for server in many:
                 server.begin(1, USER)
-            door.run.process.send_signal(signal.SIGHUP)
+            door.renews()
             with ThreadPoolExecutor(200) as pool:
                 equal({*pool.map(lambda server: server.goes_on(1, USER), many)}, {OK.format(1)}, "the logins on many connections")
     equal(len([*door.logs.glob("*.log")]), 4, "the number of logs")
@@ -308,9 +305,7 @@ def all_of(server: Server, count: int) -> list[str]:
         word, ident, *rest = line.split("\t")
         if word == "CONT" and ident not in signed:
             signed.add(ident)
-            challenge = b64decode(rest[0]).decode()
-            it = USER.exchange("fyko", challenge.split(",")[0].removeprefix("r=fyko"))
-            server.respond(int(ident), it.final.encode())
+            server.respond(int(ident), USER.answers(b64decode(rest[0]).decode()).final.encode())
         elif word == "CONT":
             server.respond(int(ident), b"")
         else:
@@ -372,16 +367,12 @@ def limits(folder: str) -> None:
 def no_journal(folder: str) -> None:
     """A door whose standard error is closed serves, and ends well."""
     place = Path(folder)
-    (place / "logs").mkdir(0o700)
-    (place / "book.toml").write_text(BOOK)
-    (place / "book.toml").chmod(0o600)
-    words = [sys.executable, TOP / "hosts/serve-dovecot-auth", place / "book.toml", place / "auth", place / "logs"]
+    words = [sys.executable, TOP / "hosts/serve-dovecot-auth", private(place / "book.toml", BOOK), place / "auth", within(folder, "logs")]
     run = Running(["bash", "-c", 'exec "$@" 2>&-', "bash", *map(str, words)], env=program_on_path(folder))
     until(lambda: (place / "auth").exists() or run.process.poll() is not None, "the door should serve")
     with Server(place / "auth") as server:
         equal(server.logs_in(1, USER), OK.format(1), "a login")
-    run.process.send_signal(signal.SIGTERM)
-    equal(run.end().status, 0, "the status of the door")
+    equal(run.end(by=signal.SIGTERM).status, 0, "the status of the door")
     [log] = (place / "logs").glob("*.log")
     suite.audit_says(f"{log}.toml", log, "clean sessions=1 accepted=1 codes=0")
 
@@ -396,7 +387,7 @@ def many_files(folder: str) -> None:
         resource.setrlimit(resource.RLIMIT_NOFILE, most)
     with contextlib.ExitStack() as servers:
         many = [servers.enter_context(Server(door)) for _ in range(2 * few)]
-        door.run.process.send_signal(signal.SIGHUP)
+        door.renews()
         until(lambda: len([*door.logs.glob("*.log")]) == 2, "a new log should begin")
         equal(many[-1].logs_in(1, USER), OK.format(1), "a login")
     door.ends(1)
@@ -412,9 +403,7 @@ def halls_that_fail(folder: str) -> None:
 
     for trial, (does, fault) in each([(Door.kills_hall, '"the hall has ended"'), (full, '"the log can\'t be written: File too large"')]):
         with trial:
-            place = Path(folder, does.__name__)
-            place.mkdir()
-            door = Door(place, BOOK)
+            door = Door(within(folder, does.__name__), BOOK)
             with Server(door) as server:
                 equal(server.logs_in(1, USER), OK.format(1), "a login before that")
                 server.begin(2, USER)
@@ -436,7 +425,7 @@ def logs_of_a_killed_door(folder: str) -> None:
     door = Door(folder, BOOK)
     with Server(door) as server:
         equal(server.logs_in(1, USER), OK.format(1), "a login")
-        door.run.process.send_signal(signal.SIGHUP)
+        door.renews()
         until(lambda: door.notes("audit"), "the first log should be audited")
         equal(server.logs_in(2, USER), OK.format(2), "a login in the next log")
         server.begin(3, USER)
@@ -446,8 +435,7 @@ def logs_of_a_killed_door(folder: str) -> None:
     for count in 1, 2:
         door.start()
         logs = sorted({*logs, *door.logs.glob("*.log")})
-        door.run.process.send_signal(signal.SIGTERM)
-        equal(door.status(), 0, "the status of the next door")
+        door.stops()
         equal(len(logs), 2 + count, "the number of logs")
     answers = ["clean sessions=1 accepted=1 codes=0", "line 12: cut", *["clean sessions=0 accepted=0 codes=0"] * 2]
     due = [f'event=audit {"level=error " * (it == answers[1])}log={log} answer="{it}"' for log, it in zip(logs, answers)]
@@ -464,15 +452,12 @@ def sockets(folder: str) -> None:
     door.start()
     with Server(door) as server:
         equal(server.logs_in(1, USER), OK.format(1), "a login at a socket that was left")
-    words = [TOP / "hosts" / "serve-dovecot-auth", Path(folder, "other.toml"), door.socket, Path(folder, "logs")]
-    Path(folder, "other.toml").write_text(BOOK)
-    Path(folder, "other.toml").chmod(0o600)
+    words = [TOP / "hosts" / "serve-dovecot-auth", private(Path(folder, "other.toml"), BOOK), door.socket, Path(folder, "logs")]
     second = ran([*words, "--control", Path(folder, "other")], env=program_on_path(folder))
     holds(second.status == 1 and "File exists" in second.faults, "another door serves at the same socket", second)
     with Server(door) as server:
         equal(server.logs_in(1, USER), OK.format(1), "a login at the first door")
-    door.run.process.send_signal(signal.SIGTERM)
-    equal(door.run.end().status, 0, "the status of the door")
+    door.stops()
     paths = [door.socket, Path(folder, "more")]
     with socket.socket(socket.AF_UNIX) as one, socket.socket(socket.AF_UNIX) as more:
         for listener, path in zip([one, more], paths):
@@ -484,17 +469,15 @@ def sockets(folder: str) -> None:
         for path in paths:
             with Server(path) as server:
                 equal(server.logs_in(1, USER), OK.format(1), "a login at a socket of the service manager")
-        run.process.send_signal(signal.SIGTERM)
-        equal((run.end().status, *map(Path.exists, paths)), (0, True, True), "the status of the door, and whether the sockets stay")
+        equal(run.end(by=signal.SIGTERM).status, 0, "the status of the door")
+        equal([*map(Path.exists, paths)], [True, True], "whether the sockets stay")
 
 
 def new_log_each_day(folder: str) -> None:
     """A new log begins at the time of day that is asked for, in UTC."""
     for seconds in 3, 12, 48:  # on a busy machine a door may begin too late
         moment = datetime.now(UTC) + timedelta(seconds=seconds)
-        place = Path(folder, str(seconds))
-        place.mkdir()
-        with door_of(place, BOOK, 0, "--daily", f"{moment:%H:%M:%S}") as door:
+        with door_of(within(folder, seconds), BOOK, 0, "--daily", f"{moment:%H:%M:%S}") as door:
             if datetime.now(UTC) < moment - timedelta(seconds=1):
                 until(lambda: len([*door.logs.glob("*.log")]) == 2, "a new log should begin")
                 began = [path.name[9:15] for path in sorted(door.logs.glob("*.log"))]
@@ -509,8 +492,8 @@ PAGE = Page("docs/DOORS.md")
 def blocks_of_the_page(folder: str) -> None:
     """The page's commands start a door, and work on its book while it serves. Its program says whether a password is right."""
     Path(folder, "hosts").symlink_to(TOP / "hosts")
-    Path(folder, "book.toml").write_text(BOOK.replace("failures = 0", "failures = 100").replace("decoy_count = 4096", "decoy_count = 4095"))
-    Path(folder, "book.toml").chmod(0o600)
+    changed = BOOK.replace("failures = 0", "failures = 100").replace("decoy_count = 4096", "decoy_count = 4095")
+    private(Path(folder, "book.toml"), changed)
     start, work, program = PAGE.block("Start"), PAGE.block("Unlock, enrol, edit"), PAGE.block("As a library", "python")
     how = {"cwd": folder, "env": {**program_on_path(folder), "PYTHONPATH": str(TOP / "hosts")}}
     run = Running(["bash", "-c", start.replace("hosts/serve", "exec hosts/serve")], **how)
@@ -521,9 +504,8 @@ def blocks_of_the_page(folder: str) -> None:
     found = suite.read_book(Path(folder, "book.toml"))
     done = found["accounts"]["user"]["token"]["failures"], "new" in found["accounts"], found["decoy_count"]
     equal(done, (0, True, 4096), "the book after that")
-    run.process.send_signal(signal.SIGTERM)
-    equal(run.end().status, 0, "the status of the door")
-    Path(folder, "other").mkdir()
+    equal(run.end(by=signal.SIGTERM).status, 0, "the status of the door")
+    within(folder, "other")
     Path(folder, "program.py").write_text(program)
     for password, due in ("correct horse", "True\n"), ("correct horses", "False\n"):
         answer = ran(["python3", "program.py", "book.toml", "other", "new"], f"{password}\n", **how)
@@ -545,8 +527,7 @@ def units(folder: str) -> None:
     equal(manager.recv(99), b"STOPPING=1", "what the manager is told at the end")
     del os.environ["NOTIFY_SOCKET"]
     manager.close()
-    place = Path(folder, "units")
-    place.mkdir()
+    place = within(folder, "units")
     for unit in (TOP / "hosts/units").iterdir():
         (place / unit.name).write_text(unit.read_text().replace("/usr/local/share/scramotp", str(TOP / "hosts")))
     service = place / "scramotp-dovecot-auth.service"

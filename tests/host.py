@@ -12,7 +12,6 @@ import os
 import re
 import resource
 import signal
-import stat
 import subprocess
 import sys
 from collections.abc import Awaitable, Callable
@@ -23,7 +22,7 @@ from checks import equal, holds
 from clients import Account, book
 from limits import limit
 from processes import ran
-from suite import PROGRAM, TOP, each, program_on_path, read_book
+from suite import PROGRAM, TOP, each, mode_of, private, program_on_path, read_book, within
 
 sys.path.insert(0, str(TOP / "hosts"))
 from scramotp_host import hall, journal, plain
@@ -47,9 +46,8 @@ def serves(
     notes: list[str] = []
     journal.note = lambda event, **fields: notes.extend([fields["answer"]] if event == "audit" else [])
     os.environ["PATH"] = program_on_path(folder)["PATH"]
-    Path(folder, "logs").mkdir()
-    Path(folder, "book.toml").write_text(text)
-    os.chmod(Path(folder, "book.toml"), 0o600)
+    within(folder, "logs")
+    private(f"{folder}/book.toml", text)
 
     async def run() -> None:
         async with Host(f"{folder}/book.toml", f"{folder}/logs", Limits(**limits), alarm) as host:
@@ -77,15 +75,19 @@ def audits(folder: str) -> list[tuple[int, int]]:
     return found
 
 
-async def says(login: Login, account: Account, wrong: bool = False) -> str:
-    """Logs in to an account whose challenge has not come, and leaves. Returns the last word of the answer."""
-    answer = await login.begin(account.mechanism, account.exchange("fyko", "").first.encode())
+async def proves(login: Login, account: Account, wrong: bool = False) -> str:
+    """Logs in to an account whose challenge has not come. Returns the last word of the answer."""
+    answer = await login.begin(account.mechanism, account.first.encode())
     equal(answer.word, "CONT", "the answer to the first message")
-    own = answer.message.decode().split(",")[0].removeprefix("r=fyko")
-    it = account.exchange("fyko", own)
-    equal(answer.message.decode(), it.challenge, "the challenge")
+    it = account.answers(answer.message.decode())
     word, message = await login.respond((it.wrong_final if wrong else it.final).encode())
     equal(message.decode(), "e=invalid-proof" if wrong else f"v={it.signature}", "the server's last message")
+    return word
+
+
+async def says(login: Login, account: Account, wrong: bool = False) -> str:
+    """The same, and leaves."""
+    word = await proves(login, account, wrong)
     login.leave()
     return word
 
@@ -140,7 +142,7 @@ def files_of_a_log(folder: str) -> None:
     serves(folder, one)
     os.umask(umask)
     equal(audits(folder), [(1, 0)], "the audit")
-    files = {path.name[22:]: stat.S_IMODE(path.stat().st_mode) for path in Path(folder, "logs").iterdir()}
+    files = {path.name[22:]: mode_of(path) for path in Path(folder, "logs").iterdir()}
     due = dict.fromkeys(["Z.log", "Z.log.toml", "Z.log.clients", "Z.log.audited"], 0o600)
     equal(files, due, "the modes of the files")
     [clients] = Path(folder, "logs").glob("*.clients")
@@ -161,8 +163,8 @@ def names_of_logins(folder: str) -> None:
             holds(False, "a login has names before it is accepted", login.names)
         except LookupError:
             pass
-        challenge = (await login.respond(odd.exchange("fyko", "").first.encode())).message.decode()
-        await login.respond(odd.exchange("fyko", challenge.split(",")[0].removeprefix("r=fyko")).final.encode())
+        challenge = (await login.respond(odd.first.encode())).message.decode()
+        await login.respond(odd.answers(challenge).final.encode())
         equal(login.names, Names("a=b,c", "a=b,c"), "the names")
         login.leave()
         login = await host.login(HOME)
@@ -212,8 +214,7 @@ def codes(folder: str) -> None:
         await plain.accepts(login, b"user", b"x")
         await refused(login.code("123456"), LoginLost)
         login = await host.login(HOME)
-        challenge = (await login.begin(USER.mechanism, USER.exchange("fyko", "").first.encode())).message.decode()
-        await login.respond(USER.exchange("fyko", challenge.split(",")[0].removeprefix("r=fyko")).final.encode())
+        await proves(login, USER)
         for code in "123 456", "1\n", "", "12345678901234567":
             await refused(login.code(code), ValueError)
         equal([(await login.code(USER.code(1))).word for _ in range(2)], ["PASS", "FAIL"], "the replies")
@@ -452,7 +453,7 @@ def an_operator_at_work(folder: str) -> None:
 
     async def works(host: Host) -> None:
         async with controlled(host, f"{folder}/control"):
-            equal(stat.S_IMODE(os.lstat(f"{folder}/control").st_mode), 0o600, "the mode of the second socket")
+            equal(mode_of(f"{folder}/control"), 0o600, "the mode of the second socket")
             users = asyncio.create_task(goes_on(host))
             equal(await ctl(folder, "unlock", "user"), (0, "unlocked user\n"), "unlock")
             equal(await ctl(folder, "unlock", "none"), (1, "scramotp: no such account\n"), "unlock of nobody")
@@ -487,8 +488,7 @@ def faults_of_a_hall(folder: str) -> None:
 
     async def halted(host: Host) -> None:
         login = await host.login(HOME)
-        challenge = (await login.begin(USER.mechanism, USER.exchange("fyko", "").first.encode())).message.decode()
-        await login.respond(USER.exchange("fyko", challenge.split(",")[0].removeprefix("r=fyko")).final.encode())
+        await proves(login, USER)
         Path(f"{host.book}.new").mkdir()
         await refused(login.code(USER.code(0)), HallFault)
         equal(str(host.failed.exception()), "the book can't be saved", "what the host failed by")
@@ -500,19 +500,14 @@ def faults_of_a_hall(folder: str) -> None:
 
     for trial, does in each([killed, halted, miscounted]):
         with trial:
-            place = Path(folder, does.__name__)
-            place.mkdir()
-            serves(str(place), does)
+            serves(str(within(folder, does.__name__)), does)
 
 
 def a_book_that_is_not_copied(folder: str) -> None:
     """A hall whose book can't be copied whole, since the disk is full but for a part of it, does not begin, and leaves no file."""
     os.environ["PATH"] = program_on_path(folder)["PATH"]
     text = book([USER])
-    path = Path(folder, "book.toml")
-    path.write_text(text)
-    path.chmod(0o600)
-    begun = hall.Hall(str(path), f"{folder}/log")
+    begun = hall.Hall(str(private(f"{folder}/book.toml", text)), f"{folder}/log")
     holds(begun.is_ready(limit(20)), "the hall does not begin")
     limits = resource.getrlimit(resource.RLIMIT_FSIZE)
     resource.setrlimit(resource.RLIMIT_FSIZE, (len(text) - 1, limits[1]))

@@ -15,7 +15,7 @@ import processes
 from checks import equal, holds
 from clients import Account
 from processes import Running, ran, until
-from suite import PROGRAM, TOP, program_on_path
+from suite import PROGRAM, TOP, private, program_on_path
 
 # The lines with which a door greets a server, without those that differ each time.
 GREETING = ["VERSION\t1\t2", "MECH\tSCRAM-SHA-256\tmutual-auth", "MECH\tSCRAM-SHA-1\tmutual-auth"]
@@ -30,8 +30,7 @@ class Door:
     def __init__(self, folder: str | Path, book: str, *flags: str, **how: object) -> None:
         self.folder = Path(folder)
         self.socket, self.logs, self.journal = (self.folder / name for name in ["auth", "logs", "journal"])
-        (self.folder / "book.toml").write_text(book)
-        (self.folder / "book.toml").chmod(0o600)
+        private(self.folder / "book.toml", book)
         self.logs.mkdir(exist_ok=True)
         self.start(*flags, **how)
 
@@ -51,7 +50,15 @@ class Door:
     def served(self) -> Iterator["Door"]:
         """The door, which is ended by TERM at the end of the context."""
         yield self
-        self.run.process.send_signal(signal.SIGTERM)
+        self.stops()
+
+    def renews(self) -> None:
+        """Has the door begin a new log."""
+        self.run.process.send_signal(signal.SIGHUP)
+
+    def stops(self) -> None:
+        """Ends the door by TERM. It has to end well."""
+        self.run.process.terminate()
         equal(self.status(), 0, "the status of a door", self.journal.read_text()[-2000:])
 
     def notes(self, event: str) -> list[str]:
@@ -65,8 +72,7 @@ class Door:
 
     def ends(self, accepted: int) -> None:
         """Ends the door by TERM. It has to end well, with each log clean and so many logins accepted."""
-        self.run.process.send_signal(signal.SIGTERM)
-        equal(self.status(), 0, "the status of a door", self.journal.read_text()[-2000:])
+        self.stops()
         holds(not self.socket.exists(), "the socket is left")
         equal(sum(self.audits()), accepted, "the accepted logins")
 
@@ -149,13 +155,11 @@ class Server:
         return b64decode(words[2])
 
     def begin(self, ident: int, account: Account, settings: str = SETTINGS) -> None:
-        self.auth(ident, account.mechanism, account.exchange("fyko", "").first.encode(), settings)
+        self.auth(ident, account.mechanism, account.first.encode(), settings)
 
     def goes_on(self, ident: int, account: Account, is_wrong: bool = False) -> str:
         """Takes the challenge, proves the password, or fails to, and checks the server. Returns the last line."""
-        challenge = self.challenge(ident).decode()
-        it = account.exchange("fyko", challenge.split(",")[0].removeprefix("r=fyko"))
-        equal(challenge, it.challenge, "the challenge")
+        it = account.answers(self.challenge(ident).decode())
         self.respond(ident, (it.wrong_final if is_wrong else it.final).encode())
         if is_wrong:
             return self.line()

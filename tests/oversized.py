@@ -15,6 +15,7 @@ import tempfile
 import termios
 import time
 from collections.abc import Iterable, Iterator
+from typing import Any
 
 import clients
 import expected
@@ -204,9 +205,9 @@ class Fed(Running):
         status = pathlib.Path(f"/proc/{self.process.pid}/status").read_text()
         return int(status.split("VmHWM:")[1].split()[0])
 
-    def end(self, text: str | bytes = b"") -> Answer:
+    def end(self, *given: Any) -> Answer:
         """As `Running.end`, with the output that is in the file."""
-        answer = super().end(text)
+        answer = super().end(*given)
         self.file.seek(0)
         with self.file:
             return answer._replace(output=self.file.read().decode())

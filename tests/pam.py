@@ -8,6 +8,7 @@ folder. systemd.py has both at a real sshd.
 import contextlib
 import os
 import re
+import signal
 import socket
 from collections.abc import Iterator
 from pathlib import Path
@@ -18,7 +19,7 @@ from checks import equal, holds
 from clients import Account, book
 from expected import code
 from processes import Answer, Running, ran, until
-from suite import CODES, TOP, audit_says, each, has, hotp, program_on_path
+from suite import CODES, TOP, audit_says, each, has, hotp, private, program_on_path
 
 LOGIN, CODE = TOP / "hosts/check-login", TOOLS / "check-code"
 USER = Account("user", "SCRAM-SHA-256")
@@ -31,14 +32,11 @@ SERVICES = Page("docs/DOORS.md").blocks("PAM", 2, "")
 def hall(folder: str, text: str) -> Iterator[Path]:
     """Runs `serve-hall` over a book with this text, and gives its socket. At the end its log has to be clean."""
     here = Path(folder)
-    (here / "book.toml").write_text(text)
-    (here / "book.toml").chmod(0o600)
-    words = [TOOLS / "serve-hall", here / "book.toml", here / "socket", here / "log"]
+    words = [TOOLS / "serve-hall", private(here / "book.toml", text), here / "socket", here / "log"]
     run = Running(words, env=program_on_path(folder))
     until(lambda: (here / "log").exists() and (here / "log").read_text().startswith("SCRAMLOG"), "a hall should begin")
     yield here / "socket"
-    run.process.terminate()
-    run.ends(0)
+    run.ends(0, by=signal.SIGTERM)
 
 
 def is_clean(folder: str, sessions: int, accepted: int, codes: int) -> None:

@@ -187,8 +187,11 @@ class Running:
         yield found is not None and found.si_code == os.CLD_STOPPED
         self.process.send_signal(signal.SIGCONT)
 
-    def end(self, text: str | bytes = b"") -> Answer:
-        """Sends the run the rest of its input, if any, and waits for its end. Returns its answer, with the output that is not read yet."""
+    def end(self, text: str | bytes = b"", by: int = 0) -> Answer:
+        """Sends the run this signal, if it is one, and the rest of its input, and waits for its end. Returns its answer, with the output
+        that is not read yet."""
+        if by:
+            self.process.send_signal(by)
         self.given += _encoded(text)
         try:
             output, faults = self.process.communicate(_encoded(text) if self.process.stdin else None, timeout=LIMIT)
@@ -197,9 +200,9 @@ class Running:
         output, self.unread = self.unread + (output or b""), b""
         return _remember(self.words, self.given, Answer(self.process.returncode, *((it or b"").decode() for it in (output, faults))))
 
-    def ends(self, status: int, output: str = "", faults: str = "", text: str | bytes = b"") -> None:
-        """Sends the run the rest of its input, if any, and compares its answer."""
-        equal(self.end(text), (status, output, faults), "the end of a run")
+    def ends(self, status: int, output: str = "", faults: str = "", text: str | bytes = b"", by: int = 0) -> None:
+        """As `end`, and compares the answer."""
+        equal(self.end(text, by), (status, output, faults), "the end of a run")
 
     def killed(self) -> Answer:
         """Kills the run, unless it has ended, and returns its answer."""

@@ -17,7 +17,6 @@ import re
 import resource
 import signal
 import socket
-import stat
 import sys
 import termios
 import time
@@ -33,8 +32,10 @@ from clients import Account
 from expected import MECHS
 from limits import limit
 from processes import LIMIT, LIMIT_OF_LINES, Running, until
-from suite import BOOK_OF_USER, each, seen
+from suite import BOOK_OF_USER, each, mode_of, seen, within
 
+# An account with a token, and one without.
+USER, BARE = Account("user", "SCRAM-SHA-256"), Account("bare", "SCRAM-SHA-256")
 # What `line_of` returns for a client that waits in vain.
 NOTHING = "nothing in time"
 # The seconds in which a client has to send a whole line, in a copy of the tool.
@@ -86,20 +87,24 @@ def greeted(folder: str | Path) -> socket.socket:
 
 def begins_login(client: socket.socket, account: Account) -> None:
     """The client sends the first message of a login to this account."""
-    client.sendall(f"AUTH {account.mechanism} :{account.exchange('fyko', '').first}\n".encode())
+    client.sendall(f"AUTH {account.mechanism} :{account.first}\n".encode())
 
 
-def logs_in(client: socket.socket, account: Account) -> str:
+def goes_on(client: socket.socket, account: Account) -> str:
     """The client receives the challenge of that login, answers it, and is let in. Returns the server's part of the nonce."""
     challenge = line_of(client).removeprefix("CONT :")
     found = re.match(r"r=fyko([^,]{24}),", challenge)
     holds(found, "no challenge", challenge)
-    own = found[1]
-    it = account.exchange("fyko", own)
-    equal(challenge, it.challenge, "the challenge")
+    it = account.answers(challenge)
     client.sendall(f"RESP :{it.final}\n".encode())
     equal(line_of(client), f"OK :v={it.signature}", "the login")
-    return own
+    return found[1]
+
+
+def logs_in(client: socket.socket, account: Account) -> str:
+    """A whole login."""
+    begins_login(client, account)
+    return goes_on(client, account)
 
 
 def is_read(client: socket.socket) -> bool:
@@ -137,30 +142,28 @@ def children(serving: Running) -> list[str]:
 
 def serves_until(serving: Running, number: int, folder: str | Path, answer: str) -> None:
     """The program ends well at this signal. The audit of its log, by the book that it began with, has this answer."""
-    serving.process.send_signal(number)
-    serving.ends(0)
+    serving.ends(0, by=number)
     does(folder, "scramotp audit --book hall.log.toml --log hall.log", printed=f"{answer}\n")
 
 
 def a_hall_of_your_own(folder: str) -> None:
     """Six clients: one logs in and sends a code, one sends a line that is too long, one sends the longest that a line can be, one asks for
     another mechanism, one goes away, and one has gone before it is greeted."""
-    account = clients.Account("user", "SCRAM-SHA-256")
-    serving = serving_hall(folder, clients.book([account]))
+    serving = serving_hall(folder, clients.book([USER]))
     good, long, longest, other, away = [greeted(folder) for _ in range(5)]
     away.close()
     with serving.stopped():
         connected(folder).close()
-    begins_login(good, account)
+    begins_login(good, USER)
     long.sendall(b"x" * 7000 + b"\n")
     equal([line_of(long), line_of(long)], ["NO :", ""], "a line that is too long")
     longest.sendall(f"{LONGEST}\n".encode())
     equal([line_of(longest), line_of(longest)], ["NO :", ""], "the longest line, which is for another mechanism")
     other.sendall(b"AUTH PLAIN\n")
     equal([line_of(other), line_of(other)], ["NO :", ""], "another mechanism")
-    logs_in(good, account)
-    answers(good, f"CODE {account.code(0)}", r"PASS \d+ 0")
-    equal(stat.S_IMODE(os.stat(Path(folder, "hall.sock")).st_mode), 0o700, "the mode of the socket")
+    goes_on(good, USER)
+    answers(good, f"CODE {USER.code(0)}", r"PASS \d+ 0")
+    equal(mode_of(Path(folder, "hall.sock")), 0o700, "the mode of the socket")
     serves_until(serving, signal.SIGINT, folder, "clean sessions=6 accepted=1 codes=1")
     equal(line_of(good), "", "the client is told no more")
     lines = Path(folder, "hall.log").read_text().splitlines()
@@ -172,11 +175,9 @@ def a_hall_of_your_own(folder: str) -> None:
 def a_code_of_this_moment(folder: str) -> None:
     """A code is judged by the moment at which it comes: one of now passes, and one of ten steps ago does not. Both answers have it. Each
     code comes in two halves."""
-    account = clients.Account("user", "SCRAM-SHA-256")
-    serving = serving_hall(folder, clients.book([account], have_tokens=False) + token_of_now())
+    serving = serving_hall(folder, clients.book([USER], have_tokens=False) + token_of_now())
     client = greeted(folder)
-    begins_login(client, account)
-    logs_in(client, account)
+    logs_in(client, USER)
     for steps, answer in [(-10, r"FAIL (\d+)"), (0, r"PASS (\d+) \d+")]:
         before = int(time.time())
         sends_in_halves(client, f"CODE {code_of_now(steps)}")
@@ -214,21 +215,18 @@ def clients_of_a_log(folder: str) -> None:
 
 def a_full_hall(folder: str) -> None:
     """When 64 clients are there, the next is turned away, until one leaves. A client without a token can still send codes."""
-    account = clients.Account("bare", "SCRAM-SHA-256")
-    serving = serving_hall(folder, clients.book([account], have_tokens=False))
+    serving = serving_hall(folder, clients.book([BARE], have_tokens=False))
     guests = [greeted(folder) for _ in range(64)]
     parts = set()
     for guest in guests[1:9]:
-        begins_login(guest, account)
-        parts.add(logs_in(guest, account))
+        parts.add(logs_in(guest, BARE))
     equal(len(parts), 8, "how many different parts of the nonce the server has made for 8 clients", parts)
     away = connected(folder)
     equal([line_of(away), line_of(away)], ["BUSY", ""], "the 65th")
     answers(guests[0], "ABORT", "NO :")
     equal(line_of(guests[0]), "", "one that has left")
     last = greeted(folder)
-    begins_login(last, account)
-    logs_in(last, account)
+    logs_in(last, BARE)
     for _ in range(2):
         answers(last, "CODE 755224", r"NOCODE \d+")
     serves_until(serving, signal.SIGTERM, folder, "clean sessions=65 accepted=9 codes=0")
@@ -236,18 +234,15 @@ def a_full_hall(folder: str) -> None:
 
 def a_hall_that_halts(folder: str) -> None:
     """If a code can't be saved, its client is sent HALT, unless it has gone, and the program ends. Its log is still clean."""
-    account = clients.Account("user", "SCRAM-SHA-256")
     for trial, is_gone in each([False, True]):
         with trial:
-            place = Path(folder, str(is_gone))
-            place.mkdir()
-            serving = serving_hall(place, clients.book([account]))
+            place = within(folder, is_gone)
+            serving = serving_hall(place, clients.book([USER]))
             client, other = greeted(place), greeted(place)
-            begins_login(client, account)
-            logs_in(client, account)
+            logs_in(client, USER)
             Path(place, "book.toml.new").mkdir()
             with serving.stopped():
-                client.sendall(f"CODE {account.code(0)}\n".encode())
+                client.sendall(f"CODE {USER.code(0)}\n".encode())
                 if is_gone:
                     client.close()
             if not is_gone:
@@ -289,16 +284,14 @@ def a_hall_that_is_killed(folder: str) -> None:
 def a_slow_client(folder: str) -> None:
     """A client that sends byte after byte but no whole line is cut off; here after PATIENCE seconds, by a copy of the tool. One that sends
     whole lines is served before and after that."""
-    account = clients.Account("bare", "SCRAM-SHA-256")
     text = (TOOLS / "serve-hall").read_text(encoding="utf-8")
     equal(text.count("\nPATIENCE = 60 "), 1, "the seconds that it waits")
     quick = Path(folder, "quick")
     quick.write_text(text.replace("\nPATIENCE = 60 ", f"\nPATIENCE = {PATIENCE} "), encoding="utf-8")
     quick.chmod(0o755)
-    serving = serving_hall(folder, clients.book([account], have_tokens=False), "./quick")
+    serving = serving_hall(folder, clients.book([BARE], have_tokens=False), "./quick")
     busy = greeted(folder)
-    begins_login(busy, account)
-    logs_in(busy, account)
+    logs_in(busy, BARE)
     began = said = time.monotonic()
     slow = greeted(folder)
     slow.settimeout(0.02)
@@ -326,12 +319,10 @@ def a_slow_client(folder: str) -> None:
 def a_client_that_does_not_read(folder: str) -> None:
     """The session of a client that goes on sending codes, and reads no answer, ends once the machine keeps no more answers for it. The
     tool waits for it at no time: before that and after it, another client is served."""
-    account = clients.Account("bare", "SCRAM-SHA-256")
-    serving = serving_hall(folder, clients.book([account], have_tokens=False))
+    serving = serving_hall(folder, clients.book([BARE], have_tokens=False))
     deaf, other = greeted(folder), greeted(folder)
     for client in deaf, other:
-        begins_login(client, account)
-        logs_in(client, account)
+        logs_in(client, BARE)
     sent = 0
 
     def is_cut_off() -> bool:
@@ -356,17 +347,16 @@ def a_client_that_does_not_read(folder: str) -> None:
 def a_client_that_ends_no_line(folder: str) -> None:
     """While a client sends 16 MB without the end of a line, another logs in. The tool keeps only the beginning of that line. At its end the
     session is over, as after any line that is too long."""
-    account = clients.Account("user", "SCRAM-SHA-256")
-    serving = serving_hall(folder, clients.book([account]))
+    serving = serving_hall(folder, clients.book([USER]))
     endless, other = greeted(folder), greeted(folder)
     endless.settimeout(LIMIT)
-    begins_login(other, account)
+    begins_login(other, USER)
     with ThreadPoolExecutor(1) as pool:
         sending = pool.submit(endless.sendall, b"x" * (16 << 20))
-        logs_in(other, account)
+        goes_on(other, USER)
         fault = sending.exception()
     holds(fault is None, "the tool does not take 16 MB of one line", fault)
-    answers(other, f"CODE {account.code(0)}", r"PASS \d+ 0")
+    answers(other, f"CODE {USER.code(0)}", r"PASS \d+ 0")
     [most] = re.findall(r"^VmHWM:\s+(\d+) kB$", Path(f"/proc/{serving.process.pid}/status").read_text(), re.M)
     holds(int(most) < 40 << 10, "the kilobytes of memory that the tool has taken, after 16 MB of one line", most)
     endless.sendall(b"\n")
@@ -438,16 +428,14 @@ def signals_to_all(folder: str) -> None:
     `nohup` it goes on after HUP."""
     for trial, (number, wrapper) in each([(signal.SIGINT, ""), (signal.SIGHUP, ""), (signal.SIGHUP, "nohup")]):
         with trial:
-            place = Path(folder, f"{number}{wrapper}")
-            place.mkdir()
+            place = within(folder, f"{number}{wrapper}")
             with_tools(place, BOOK_OF_USER)
             serving = start(place, START.replace("exec tools/", f"exec setsid {wrapper} tools/"))
             greeted(place)
             os.killpg(serving.process.pid, number)
             if wrapper:
                 greeted(place)
-                serving.process.send_signal(signal.SIGTERM)
-            status, _, faults = serving.end()
+            status, _, faults = serving.end(by=signal.SIGTERM if wrapper else 0)
             equal((status == 0, faults.replace("nohup: ignoring input\n", "")), (True, ""), number, wrapper)
             clean = f"clean sessions={1 + bool(wrapper)} accepted=0 codes=0\n"
             does(place, "scramotp audit --book hall.log.toml --log hall.log", printed=clean)
@@ -461,7 +449,7 @@ def modes_of_its_files(folder: str) -> None:
     serving = start(folder, START.replace("umask 077", "umask 007"))
     greeted(folder).close()
     due = {"hall.sock": 0o770, "hall.log": 0o600, "hall.log.toml": 0o600, "hall.log.clients": 0o600}
-    equal({name: stat.S_IMODE(os.lstat(Path(folder, name)).st_mode) for name in due}, due, "the modes of the files")
+    equal({name: mode_of(Path(folder, name)) for name in due}, due, "the modes of the files")
     serves_until(serving, signal.SIGINT, folder, "clean sessions=1 accepted=0 codes=0")
 
 
@@ -469,8 +457,7 @@ def a_socket_that_is_replaced(folder: str) -> None:
     """If the socket is gone at the end of the tool, nothing is said of it. A file that has its name by then stays."""
     for trial, is_replaced in each([False, True]):
         with trial:
-            place = Path(folder, str(is_replaced))
-            place.mkdir()
+            place = within(folder, is_replaced)
             serving = serving_hall(place, BOOK_OF_USER)
             greeted(place).close()
             file = Path(place, "hall.sock")
@@ -490,16 +477,14 @@ def a_stop_before_the_hall_begins(folder: str) -> None:
     """If a signal comes before the hall has begun, as while that waits for the book, the tool says so, ends the hall, and leaves nothing.
     Here a stand-in for the program begins no log."""
     with_tools(folder, BOOK_OF_USER)
-    waiting = Path(folder, "waiting", "scramotp")
-    waiting.parent.mkdir()
+    waiting = within(folder, "waiting") / "scramotp"
     waiting.write_text("#!/bin/sh\ncat\necho the hall goes on >&2\n")
     waiting.chmod(0o755)
     for trial, number in each([signal.SIGINT, signal.SIGTERM]):
         with trial:
             serving = start(folder, START.replace("exec tools/", 'exec env PATH="$PWD/waiting:$PATH" tools/'))
             until(lambda: serving.process.poll() is not None or children(serving), "the tool should start the hall")
-            serving.process.send_signal(number)
-            serving.ends(1, "", "serve-hall: stopped before the hall began\n")
+            serving.ends(1, "", "serve-hall: stopped before the hall began\n", by=number)
             leaves_nothing(folder)
 
 
@@ -518,9 +503,7 @@ def a_hall_that_does_not_begin(folder: str) -> None:
     equal(nowhere, (1, "", "serve-hall: none/hall.sock: [Errno 2] No such file or directory\n"), "a socket in no folder")
     leaves_nothing(folder)
     # A folder for the PATH that has only Python
-    python = Path(folder, "only", "python3")
-    python.parent.mkdir()
-    python.symlink_to(sys.executable)
+    (within(folder, "only") / "python3").symlink_to(sys.executable)
     missing = ran(folder, START.replace("exec tools/", "exec env PATH=only tools/"))
     equal(missing, (1, "", "serve-hall: [Errno 2] No such file or directory: 'scramotp'\n"), "no program")
     leaves_nothing(folder)

@@ -10,6 +10,7 @@ import pwd
 import random
 import re
 import signal
+import stat
 import sys
 import tempfile
 import tomllib
@@ -170,6 +171,26 @@ def program_on_path(folder: str | pathlib.Path, **more: Any) -> dict[str, str]:
     return {**os.environ, "PATH": f"{commands}:{os.environ['PATH']}", **more}
 
 
+def within(folder: str | pathlib.Path, name: object) -> pathlib.Path:
+    """A new folder of this name in another one."""
+    made = pathlib.Path(folder, str(name))
+    made.mkdir()
+    return made
+
+
+def private(path: str | pathlib.Path, text: str) -> pathlib.Path:
+    """Writes a file that only its owner can read."""
+    path = pathlib.Path(path)
+    path.write_text(text)
+    path.chmod(0o600)
+    return path
+
+
+def mode_of(path: str | pathlib.Path) -> int:
+    """The permissions of a file."""
+    return stat.S_IMODE(os.lstat(path).st_mode)
+
+
 def fault_text(fault: str) -> str:
     """The text on standard error for a fault, which is given without its prefix, or for no fault."""
     return f"scramotp: {fault}\n" if fault else ""
@@ -197,6 +218,11 @@ def prints(words: list, data: str | bytes, status: int, output: str = "", fault:
     answer = ran(words, data)
     equal(answer, (status, output, fault_text(fault)), *about)
     return answer.output
+
+
+def enrols(book: str | pathlib.Path, name: str, password: str = "pencil", *more: str) -> None:
+    """Adds an account to a book, which is made if there is none."""
+    prints([PROGRAM, "enrol", "--book", book, f"--name={name}", *more], password, 0, f"enrolled {name}\n")
 
 
 def verify_words(book: str | pathlib.Path, moment: str = "5", name: str = "user") -> list:
