@@ -25,8 +25,7 @@ def at_once(server: "Server", account: "Account", first: int) -> None:
         server.begin(ident, account)
     challenges = [server.challenge(ident).decode() for ident in idents]
     for ident, challenge in zip(idents, challenges):
-        it = account.exchange("fyko", challenge.split(",")[0].removeprefix("r=fyko"))
-        server.respond(ident, it.final.encode())
+        server.respond(ident, account.answers(challenge).final.encode())
     for ident in idents:
         server.challenge(ident)
     for ident in idents:

@@ -20,7 +20,7 @@ from typing import Any
 import suite
 from checks import equal, holds
 from processes import LIMIT_OF_LINES, Answer, ran
-from suite import BOOK_OF_USER, CODES, ROOT, as_nobody, each, fault_text, hotp, is_root, nobody, read_book, seen, token
+from suite import BOOK_OF_USER, CODES, ROOT, as_nobody, each, fault_text, hotp, is_root, mode_of, nobody, read_book, seen, token
 
 # A copy of the program that the user nobody can run, wherever the program is.
 COPY = tempfile.TemporaryDirectory()
@@ -63,14 +63,28 @@ def succeeds(command: str, book: str, **how: Any) -> None:
     says(command, well(command, book, **how), 0, GOOD[command][2])
 
 
+def all_succeed(book: str, **how: Any) -> None:
+    """Each command works on this book."""
+    for trial, command in each(GOOD):
+        with trial:
+            succeeds(command, book, **how)
+
+
+def all_refuse(book: str, fault: str, **how: Any) -> None:
+    """Each command on this book has this fault of a file."""
+    for trial, command in each(GOOD):
+        with trial:
+            says(command, well(command, book, **how), 3, "", fault)
+
+
 def put(path: str, text: str = BOOK) -> str:
     pathlib.Path(path).write_text(text)
     return path
 
 
 def access(path: str | pathlib.Path) -> tuple[int, int, int]:
-    found = os.stat(path)
-    return found.st_mode, found.st_uid, found.st_gid
+    """The mode, the owner and the group of a file."""
+    return mode_of(path), os.stat(path).st_uid, os.stat(path).st_gid
 
 
 def climb(command: str, options: dict[str, Any], text: str, rungs: list[tuple], printed: str) -> None:
@@ -213,16 +227,12 @@ def unwritable(folder: str) -> None:
             os.chown(path, nobody().pw_uid, nobody().pw_gid)
     before = seen(book)
     os.chmod(folder, 0o555)
-    for trial, command in each(GOOD):
-        with trial:
-            says(command, well(command, book, **as_nobody()), 3, "", f"cannot write {book}")
+    all_refuse(book, f"cannot write {book}", **as_nobody())
     says("a new book", well("enrol", new, **as_nobody()), 3, "", f"cannot write {new}")
     equal(seen(book), before, "the book")
     equal(os.listdir(folder), ["book"], "the folder")
     os.chmod(folder, 0o755)
-    for trial, command in each(GOOD):
-        with trial:
-            succeeds(command, book, **as_nobody())
+    all_succeed(book, **as_nobody())
 
 
 def each_line(folder: str) -> None:
@@ -326,7 +336,7 @@ def shared_book(folder: str) -> None:
         os.chmod(path, mode)
     check_refused(book, {**as_nobody(), "extra_groups": [4321]})
     succeeds("verify", book)
-    equal((os.stat(book).st_uid, os.stat(book).st_gid, os.stat(book).st_mode & 0o7777), (0, 4321, 0o600), "access")
+    equal(access(book), (0o600, 0, 4321), "access")
 
 
 def group_of_others(folder: str) -> None:
@@ -341,17 +351,13 @@ def group_of_others(folder: str) -> None:
             os.chown(book, nobody().pw_uid, 0)
             os.chmod(book, 0o640)
             succeeds(command, book, **as_nobody())
-            found = os.stat(book)
-            equal((found.st_uid, found.st_gid, found.st_mode & 0o7777), (nobody().pw_uid, nobody().pw_gid, 0o600), "access")
+            equal(access(book), (0o600, nobody().pw_uid, nobody().pw_gid), "access")
 
 
 def check_refused(book: str, runner: dict[str, Any]) -> None:
     """Each command on another user's book says why it can't be used, and leaves it as it was."""
     before = seen(book)
-    for trial, command in each(GOOD):
-        with trial:
-            fault = f"{book} belongs to another user: only that user and root can save it\nscramotp: cannot write {book}"
-            says(command, well(command, book, **runner), 3, "", fault)
+    all_refuse(book, f"{book} belongs to another user: only that user and root can save it\nscramotp: cannot write {book}", **runner)
     equal(seen(book), before, "the book of another")
     equal(os.listdir(os.path.dirname(book)), ["book"], "its folder")
 
@@ -374,9 +380,7 @@ def others_book(folder: str) -> None:
     equal(seen(book), before, "another's book")
     os.chown(folder, 0, 0)
     os.chmod(folder, 0o755)
-    for trial, command in each(GOOD):
-        with trial:
-            succeeds(command, book)
+    all_succeed(book)
 
 
 def others_next(folder: str) -> None:
@@ -390,9 +394,7 @@ def others_next(folder: str) -> None:
     os.chmod(next_text, 0o600)
     os.chmod(folder, 0o1777)
     before = seen(book)
-    for trial, command in each(GOOD):
-        with trial:
-            says(command, well(command, book, **as_nobody()), 3, "", f"cannot write {next_text}")
+    all_refuse(book, f"cannot write {next_text}", **as_nobody())
     equal(seen(book), before, "the book")
     os.remove(book)
     says("a new book", well("enrol", book, **as_nobody()), 3, "", f"cannot write {next_text}")
@@ -408,14 +410,10 @@ def closed_next(folder: str) -> None:
             os.chown(path, nobody().pw_uid, nobody().pw_gid)
     os.chmod(next_text, 0)
     before = seen(book), access(next_text)
-    for trial, command in each(GOOD):
-        with trial:
-            says(command, well(command, book, **as_nobody()), 3, "", f"cannot write {next_text}")
+    all_refuse(book, f"cannot write {next_text}", **as_nobody())
     equal((seen(book), access(next_text)), before, "the book and the next text")
     os.chmod(next_text, 0o600)
-    for trial, command in each(GOOD):
-        with trial:
-            succeeds(command, book, **as_nobody())
+    all_succeed(book, **as_nobody())
     equal(os.listdir(folder), ["book"], "the folder")
 
 
@@ -459,9 +457,7 @@ def hard_links(folder: str) -> None:
     equal((seen(book), seen(other)), (before, before), "both names")
     equal(sorted(os.listdir(folder)), ["book", "other"], "the folder")
     os.remove(other)
-    for trial, command in each(GOOD):
-        with trial:
-            succeeds(command, book)
+    all_succeed(book)
 
 
 def held_by_another(folder: str) -> None:

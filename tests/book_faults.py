@@ -37,7 +37,6 @@ def rows_of_table(folder: str) -> None:
         with trial:
             check(f"{TABLE.name}: line {line}: {case.shows}", pathlib.Path(folder, "book"), case)
     equal(NUMBERS - {case.answer for case in rows}, set(), "the numbers that have no row")
-    print(f"book_faults.py: {len(rows)} books as they should be")
 
 
 suite.run_all()

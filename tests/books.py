@@ -25,7 +25,8 @@ from checks import equal, holds
 from kills import kill_before_any_call
 from processes import Running, processor_time, ran, taken, until, whole
 from suite import (
-    BOOK_OF_USER, CODES, MOST_BYTES, PROGRAM, BookFolder, code, each, fault_text, hotp, is_locked, prints, read_book, seen, verify_words,
+    BOOK_OF_USER, CODES, MOST_BYTES, PROGRAM, BookFolder, code, each, fault_text, hotp, is_locked, mode_of, prints, read_book, seen,
+    verify_words,
 )
 
 BOOK = BOOK_OF_USER + hotp(look_ahead=3, limit=100)
@@ -34,11 +35,6 @@ FIRST_CODE = CODES[0]
 PASSES = (0, "PASS 5 0\n", "")
 # The user ID in the entries of an access list that name no user.
 NONE = 0xFFFFFFFF
-
-
-def mode_of(path: str | pathlib.Path) -> str:
-    """The mode of a file, in octal digits."""
-    return f"{path.stat().st_mode & 0o7777:o}"
 
 
 def start_enrol(path: str | pathlib.Path, name: str, count: int) -> Running:
@@ -101,13 +97,13 @@ def modes(folder: str) -> None:
             finally:
                 os.umask(old)
             enrolling.ends(0, "enrolled user\n")
-            equal(mode_of(here.book), "600", f"the mode of a new book, with umask {mask:03o}")
-    for trial, (before, after) in each([(0o640, "600"), (0o604, "600"), (0o600, "600"), (0o444, "400")]):
+            equal(oct(mode_of(here.book)), "0o600", f"the mode of a new book, with umask {mask:03o}")
+    for trial, (before, after) in each([(0o640, "0o600"), (0o604, "0o600"), (0o600, "0o600"), (0o444, "0o400")]):
         with trial:
             here.put(BOOK)
             here.book.chmod(before)
             here.verifies(FIRST_CODE, *PASSES)
-            equal(mode_of(here.book), after, f"the mode after a save, which was {before:o}")
+            equal(oct(mode_of(here.book)), after, f"the mode after a save, which was {before:o}")
 
 
 def access_lists(folder: str) -> None:
@@ -124,9 +120,9 @@ def access_lists(folder: str) -> None:
         equal(error.errno, errno.EOPNOTSUPP, error)
         suite.not_tested("access lists, since this file system has none")
         return
-    equal(mode_of(here.book), "640", "the mode before, with the mask of the access list")
+    equal(oct(mode_of(here.book)), "0o640", "the mode before, with the mask of the access list")
     here.verifies(FIRST_CODE, *PASSES)
-    equal(mode_of(here.book), "600", "the mode after a save")
+    equal(oct(mode_of(here.book)), "0o600", "the mode after a save")
 
 
 def locked_folder(folder: str) -> None:

@@ -47,13 +47,6 @@ def check(words: list, text: str | bytes, status: int, printed: str = "", fault:
     prints([PROGRAM, *words], text, status, printed, fault)
 
 
-def check_usage(words: list, begin: str) -> None:
-    """Runs the program with faulty words, and compares its status; its fault has to begin with `begin`."""
-    status, output, faults = ran([PROGRAM, *words], "pencil\n")
-    equal((status, output), (2, ""), words, faults)
-    equal(faults[:len(begin)], begin, words, "the beginning of the fault")
-
-
 def keys(mechanism: str, salt: str, count: str) -> list[str]:
     return ["keys", "--mechanism", mechanism, "--salt", salt, "--count", count]
 
@@ -156,29 +149,26 @@ def bad_codes(folder: str) -> None:
 
 def usage(folder: str) -> None:
     """Words that name no command or no option, or that leave out what is needed."""
+    missing = "error: the following required arguments were not provided:\n  "
     for trial, (words, begin) in each([
         ("", "error: 'scramotp' requires a subcommand but one was not provided"),
         ("nothing", "error: unrecognized subcommand 'nothing'"),
         ("help", "error: unrecognized subcommand 'help'"),
-        (
-            "keys --salt 00 --count 1",
-            "error: the following required arguments were not provided:\n  --mechanism <NAME>",
-        ),
-        ("audit --book book", "error: the following required arguments were not provided:\n  --log <FILE>"),
-        (
-            "login --book book --name user",
-            "error: the following required arguments were not provided:\n  --socket <FILE>",
-        ),
-        ("hall", "error: the following required arguments were not provided:\n  --book <FILE>"),
-        ("upgrade", "error: the following required arguments were not provided:\n  --log <FILE>"),
-        ("audit --log log", "error: the following required arguments were not provided:\n  --book <FILE>"),
-        ("report --book book", "error: the following required arguments were not provided:\n  --log <FILE>"),
+        ("keys --salt 00 --count 1", f"{missing}--mechanism <NAME>"),
+        ("audit --book book", f"{missing}--log <FILE>"),
+        ("login --book book --name user", f"{missing}--socket <FILE>"),
+        ("hall", f"{missing}--book <FILE>"),
+        ("upgrade", f"{missing}--log <FILE>"),
+        ("audit --log log", f"{missing}--book <FILE>"),
+        ("report --book book", f"{missing}--log <FILE>"),
         ("keys --salt 00 --salt 01", "error: the argument '--salt <HEX>' cannot be used multiple times"),
         ("keys --rounds 1", "error: unexpected argument '--rounds' found"),
         (f"code --secret {SECRET} --counter -1", "error: unexpected argument '-1' found"),
     ]):
         with trial:
-            check_usage(words.split(), begin)
+            status, output, faults = ran([PROGRAM, *words.split()], "pencil\n")
+            equal((status, output), (2, ""), words, faults)
+            equal(faults[:len(begin)], begin, words.split(), "the beginning of the fault")
 
 
 def help_and_version(folder: str) -> None:

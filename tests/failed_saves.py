@@ -14,7 +14,7 @@ from collections.abc import Iterator
 
 import shims
 import suite
-from checks import equal, holds
+from checks import equal
 from command_table import BOOK, LIMIT_100, Command, audited, book_of, commands, left, new_book, prepare, run
 from expected import ACCEPTED, GONE, numbered
 from processes import Answer
@@ -92,13 +92,11 @@ class Saves:
         os.mkdir(self.folder)
         self.shim = shims.built("refuse_io")
         self.book = pathlib.Path(self.folder, "book")
-        self.count = 0
 
     def fails(self, command: Command, number: int, way: tuple) -> Answer:
         """Runs a command whose save with this number fails, and returns its answer."""
         call, how, calls, before, _ = way
         more = {"LD_PRELOAD": self.shim, "CALLS": call, "REFUSED": str(number * calls - before), "HOW": how}
-        self.count += 1
         return run(command, self.folder, env={**os.environ, **more})
 
     def unsaved(self, output: str) -> tuple[int, str, str]:
@@ -141,29 +139,21 @@ def codes_of_two_runs(folder: str) -> None:
         with trial:
             first = 1 if command.name == "verify" else 2
             twice(here, command, lines, first + code, way)
-    equal(here.count, 3 * 3 * 3 * 4, "how many saves fail")
-    print(f"failed_saves.py: {here.count} saves of a code fail, and no counter passes twice")
 
 
 def first_saves(folder: str) -> None:
     """If the first save fails, nothing is printed, and the book has the old text or the new one."""
     here = Saves(folder)
     saving = [command for command in commands() if len(command.books) > 1]
-    for trial, (command, way) in each(itertools.product(saving, Saves.WAYS)):
+    new = [(new_book(), (call, how, 1, 0, how == "late")) for call, how in [("link", "refused"), ("fsync", "refused"), ("link", "late")]]
+    for trial, (command, way) in each([*itertools.product(saving, Saves.WAYS), *new]):
         with trial:
             prepare(here.folder, command)
             equal(here.fails(command, 1, way), here.unsaved(""), command.name, way)
             equal(book_of(here.folder), command.books[way[-1]], command.name, way, "the book")
             equal(left(here.folder), set(), command.name, way, "the files that are left")
-            holds(way[-1] or here.book.read_text() == BOOK, "the old text is not kept", way, here.book.read_text())
-    command = new_book()
-    for trial, (call, how, is_made) in each([("link", "refused", False), ("fsync", "refused", False), ("link", "late", True)]):
-        with trial:
-            prepare(here.folder, command)
-            equal(here.fails(command, 1, (call, how, 1, 0, is_made)), here.unsaved(""), call)
-            equal(book_of(here.folder), command.books[is_made], call, "the book")
-            equal(left(here.folder), set(), call, "the files that are left")
-    print(f"failed_saves.py: {here.count} first saves fail")
+            if command in saving and not way[-1]:
+                equal(here.book.read_text(), BOOK, "the old text", way)
 
 
 suite.run_all()

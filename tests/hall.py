@@ -112,18 +112,14 @@ REFUSED_FIRST = [
 def first_messages(folder: str) -> None:
     """A first message that asks for channel binding, or has an extension that is none, is refused. Other extensions change nothing."""
     here = Hall(folder)
-    for trial, first in each(REFUSED_FIRST):
+    refused, taken = "1 S NO :\n1 E\n", "1 S CONT :r=fykozz,s=QSXCR+Q6sek8bf92,i=4096\n1 C GONE\n1 E\n"
+    rows = [(first, "", refused) for first in REFUSED_FIRST]
+    rows += [(first, "gone 1 5\n", taken) for first in ("n,,n=user,r=fyko,x=1", "y,,n=user,r=fyko,x=1,y=a=b")]
+    for trial, (first, event, answer) in each(rows):
         with trial:
             here.put(HOTP_BOOK)
-            log = f"{clients.FIRST_LINE}1 {MECHS}\n1 C AUTH SCRAM-SHA-1 :{first}\n1 S NO :\n1 E\n"
-            here.logs(f"open zz\nline 1 5 AUTH SCRAM-SHA-1 :{first}\n", 0, log)
-            here.audited(log, clean(1))
-    for trial, first in each(["n,,n=user,r=fyko,x=1", "y,,n=user,r=fyko,x=1,y=a=b"]):
-        with trial:
-            here.put(HOTP_BOOK)
-            log = f"{clients.FIRST_LINE}1 {MECHS}\n1 C AUTH SCRAM-SHA-1 :{first}\n"
-            log += "1 S CONT :r=fykozz,s=QSXCR+Q6sek8bf92,i=4096\n1 C GONE\n1 E\n"
-            here.logs(f"open zz\nline 1 5 AUTH SCRAM-SHA-1 :{first}\ngone 1 5\n", 0, log)
+            log = f"{clients.FIRST_LINE}1 {MECHS}\n1 C AUTH SCRAM-SHA-1 :{first}\n{answer}"
+            here.logs(f"open zz\nline 1 5 AUTH SCRAM-SHA-1 :{first}\n{event}", 0, log)
             here.audited(log, clean(1))
 
 

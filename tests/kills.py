@@ -89,5 +89,3 @@ def kill_before_any_call(here: BookFolder, started: Callable[..., Running], coun
     for what, due in [("before", BEFORE), ("right after", AFTER)]:
         holds(due & kills.landed, f"no run was killed {what} a new text was put in place", kills.landed)
     holds(kills.passed_in_killed, "no code passes in a run that is killed", calls, count)
-    killed = f"{count} runs are killed, before {min(count, calls)} of {calls} calls"
-    print(f"kills.py: {killed}; {kills.passed_in_killed} codes have passed in them")

@@ -234,8 +234,7 @@ def random_nonces(folder: str) -> None:
     for trial, (name, password) in each([("one", "pencil"), ("two users", "a,b=c"), ("~" * 255, " " * 1024)]):
         with trial:
             here.book.unlink(missing_ok=True)
-            enrol = [PROGRAM, "enrol", "--book", here.book, "--name", name]
-            equal(ran(enrol, password)[::2], (0, ""), name)
+            suite.enrols(here.book, name, password)
             here.put(here.book.read_text())
             data = random.randbytes(36)
             file.write_bytes(data)

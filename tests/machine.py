@@ -50,26 +50,12 @@ UNPRINTED, UNREAD = "cannot write output", "cannot read input"
 UNSAVED, NO_RANDOM = "cannot write {folder}/book", "cannot read {folder}/random"
 
 
-def printless(saves: int) -> Due:
-    """What is due after a run whose output is lost, and which made so many saves before."""
-    return Due(3, "", UNPRINTED, saves)
-
-
-def unread(saves: int = 0, printed: str = "") -> Due:
-    """What is due after a run whose input can't be read, and which made so many saves, and printed this, before."""
-    return Due(3, printed, UNREAD, saves)
-
-
-UNKEPT = Due(3, "", UNSAVED, 0)
-
 # What is due from each command that is affected; `new` is `enrol` for a book that does not exist yet. Codes are saved before their replies
 # are printed; `login` and `hall` save the book before their first line.
-LOST_OUTPUT = {"keys": printless(0), "code": printless(0), "enrol": printless(1), "new": printless(1), "verify": printless(1)}
-LOST_OUTPUT |= {"unlock": printless(1), "login": printless(1), "hall": printless(1), "audit": printless(0), "upgrade": printless(0)}
-LOST_OUTPUT |= {"report": printless(0)}
-LOST_INPUT = {"keys": unread(), "enrol": unread(), "new": unread(), "verify": unread(), "login": unread()}
-LOST_INPUT |= {"hall": unread(1, "SCRAMLOG 2\n")}
-LOST_SAVE = {name: UNKEPT for name in ["enrol", "new", "verify", "unlock", "login", "hall"]}
+SAVING, PRINTLESS = ["enrol", "new", "verify", "unlock", "login", "hall"], Due(3, "", UNPRINTED, 1)
+LOST_OUTPUT = dict.fromkeys(SAVING, PRINTLESS) | dict.fromkeys(["keys", "code", "audit", "upgrade", "report"], PRINTLESS._replace(saves=0))
+LOST_INPUT = dict.fromkeys(["keys", "enrol", "new", "verify", "login"], Due(3, "", UNREAD, 0)) | {"hall": Due(3, "SCRAMLOG 2\n", UNREAD, 1)}
+LOST_SAVE = dict.fromkeys(SAVING, Due(3, "", UNSAVED, 0))
 
 
 def named() -> dict[str, Command]:
@@ -180,10 +166,10 @@ TABLE = [
     (closed(1), LOST_OUTPUT),
     (closed(2), {}),
     # The log's first line is lost before the first event is read.
-    (closed(0, 1), LOST_OUTPUT | LOST_INPUT | {"hall": printless(1)}),
+    (closed(0, 1), LOST_OUTPUT | LOST_INPUT | {"hall": PRINTLESS}),
     (closed(0, 2), LOST_INPUT),
     (closed(1, 2), LOST_OUTPUT),
-    (closed(0, 1, 2), LOST_OUTPUT | LOST_INPUT | {"hall": printless(1)}),
+    (closed(0, 1, 2), LOST_OUTPUT | LOST_INPUT | {"hall": PRINTLESS}),
     (Disturbance("a folder in which nothing can be written", Machine.sealed), LOST_SAVE | {"login": Due(3, "", "socket fault", 0)}),
     (Disturbance("an input that does not wait", Machine.waitless_input), LOST_INPUT),
     (Disturbance("a device without room for the book", Machine.no_room), LOST_SAVE),
@@ -197,7 +183,7 @@ TABLE = [
 
 def table(folder: str) -> None:
     """Each command ends in each disturbance as the table says."""
-    here, cells = Machine(folder), 0
+    here = Machine(folder)
     for trial, ((disturbance, row), (name, command)) in each(itertools.product(TABLE, named().items())):
         with trial:
             due = row.get(name, WELL)
@@ -210,8 +196,6 @@ def table(folder: str) -> None:
             equal(answer, seen, cell)
             equal((book_of(here.folder), left(here.folder)), (command.books[due.saves], set()), (*cell, "the book, and what else is left"))
             holds(due.saves != 0 or is_kept(here.folder, command, ""), cell, "the book is not as it was")
-            cells += 1
-    print(f"machine.py: {cells} cells of {len(TABLE)} disturbances of {len(named())} commands")
 
 
 def socket_elsewhere(folder: str) -> None:
@@ -245,7 +229,6 @@ def few_descriptors(folder: str) -> None:
                 refused += 1
             holds(answer == (0, command.printed, "") or most < 15, name, answer, "15 descriptors are too few")
     holds(refused > 0, "no run had too few descriptors")
-    print(f"machine.py: {refused} runs with too few descriptors")
 
 
 SIGNALS = [signal.SIGTERM, signal.SIGINT, signal.SIGHUP, signal.SIGKILL]
@@ -280,7 +263,7 @@ def signals(folder: str) -> None:
     """Whichever signal ends a run, and before whichever of its calls, the status is that of the signal. The run has printed the beginning
     of what is due and no fault. The book has the saves that were made by then, and the run leaves no file but the next text and the socket,
     if it had made these. The next command does all its work."""
-    here, count = Turns(folder), 0
+    here = Turns(folder)
     for trial, ((name, command), number) in each(itertools.product(named().items(), SIGNALS)):
         with trial:
             for inner, (what, _, answer) in each(here.turns(command, CHANGES, f"signal {number}")):
@@ -294,8 +277,6 @@ def signals(folder: str) -> None:
                     is_log = name in ("login", "hall")
                     holds(not is_log or printed_begins_clean(here.folder, answer.output), what, "a line of the log is at fault")
                     goes_on(here, command.books[saves], files)
-                    count += 1
-    print(f"machine.py: {count} runs ended by a signal")
 
 
 def signals_while_waiting(folder: str) -> None:
@@ -310,8 +291,7 @@ def signals_while_waiting(folder: str) -> None:
             run_of_command = Running(command.in_folder(here.folder))
             run_of_command.prints(command.printed.removesuffix(printed), command.text.removesuffix(text))
             run_of_command.waits()
-            run_of_command.process.send_signal(number)
-            run_of_command.ends(-number)
+            run_of_command.ends(-number, by=number)
             equal(book_of(here.folder), command.books[-1], "the book")
             equal(left(here.folder), files, "the files that are left")
             goes_on(here, command.books[-1], files)
@@ -351,7 +331,6 @@ def stopped_at_random(folder: str) -> None:
             run_of_command.ends(0, command.printed)
             holds(is_done(here.folder, command), name, "the book, and what else is left", book_of(here.folder), left(here.folder))
     holds(stops, "no run was stopped before its end")
-    print(f"machine.py: {len(named()) * STOPPED} runs stopped {stops} times")
 
 
 def together(here: Machine, started: list[Command]) -> list[Answer]:
@@ -385,7 +364,6 @@ def twenty_at_once(folder: str) -> None:
             equal(answers, collections.Counter([first] + [late.get(name, first)] * 19), name)
             equal(left(here.folder), set(), name, "the files that are left")
             equal(book_of(here.folder), after.get(name, before), name, "what the book states")
-    print(f"machine.py: 20 runs at once of each of {len(one_code)} commands")
 
 
 def all_at_once(folder: str) -> None:
@@ -412,7 +390,6 @@ def all_at_once(folder: str) -> None:
         found = book_of(here.folder)
         failures = found["accounts"]["user"]["token"]["failures"]
         equal(found, with_token(with_account(parsed_book(LIMIT_100)), next=2, failures=failures), "what the book states")
-    print("machine.py: 10 times 20 runs at once of all commands")
 
 
 # RFC 6238, appendix B: the SHA-1 codes at three moments, of the steps 1, 37037036 and 37037037, and a token that accepts them.

@@ -45,7 +45,6 @@ class Losses:
         self.noted = pathlib.Path(folder, "noted")
         self.folder = os.path.join(folder, "files")
         os.mkdir(self.folder)
-        self.count = 0
 
     def notes_of(self, command: Command) -> list[Note]:
         """Runs a command that does all its work, and returns what it did to files and told."""
@@ -77,7 +76,6 @@ class Losses:
         due = command.printed.count(" PASS ") if command.name == "login" else 0
         equal(replies_in(sent), due, command.name, "how many replies were noted as sent")
         holds(now(self.folder) in device.states(), command.name, "what the run has left is none of the states that a loss may leave")
-        self.count += len(losses)
         return [*losses]
 
     def put(self, loss: Loss) -> None:
@@ -209,9 +207,7 @@ def rules(folder: str) -> None:
 
 def verify(folder: str) -> None:
     """A code for which `verify` has printed PASS is spent."""
-    here = Losses(folder)
-    codes_are_sent_again(here, command_of("verify"))
-    print(f"power_loss.py: {here.count} states after verify")
+    codes_are_sent_again(Losses(folder), command_of("verify"))
 
 
 def failed_codes(folder: str) -> None:
@@ -227,7 +223,6 @@ def failed_codes(folder: str) -> None:
             place = place_of(here, command, loss)
             goes_on(here, again, with_token(book, failures=3 + place), 1, "FAIL 5\n")
     is_shown(command, losses)
-    print(f"power_loss.py: {here.count} states after verify with codes that fail")
 
 
 def two_losses(folder: str) -> None:
@@ -242,7 +237,6 @@ def two_losses(folder: str) -> None:
                 with inner:
                     here.put(next_loss)
                     place_of(here, second, next_loss)
-    print(f"power_loss.py: {here.count} states after one loss or two")
 
 
 def servers(folder: str) -> None:
@@ -251,7 +245,6 @@ def servers(folder: str) -> None:
     for trial, name in each(["login", "hall"]):
         with trial:
             codes_are_sent_again(here, command_of(name))
-    print(f"power_loss.py: {here.count} states after login and hall")
 
 
 def enrol(folder: str) -> None:
@@ -266,7 +259,6 @@ def enrol(folder: str) -> None:
                     answer = (1, "", "name is taken") if place_of(here, command, loss) else (0, command.printed)
                     goes_on(here, command, command.books[-1], *answer)
             is_shown(command, losses)
-    print(f"power_loss.py: {here.count} states after enrol")
 
 
 def unlock(folder: str) -> None:
@@ -283,7 +275,6 @@ def unlock(folder: str) -> None:
             else:
                 goes_on(here, again, book, 1, "LOCKED 5\nLOCKED 5\n")
     is_shown(command, losses)
-    print(f"power_loss.py: {here.count} states after unlock")
 
 
 suite.run_all()

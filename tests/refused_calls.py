@@ -66,9 +66,9 @@ def each_refused(kind: str, folder: str, given: str) -> tuple[str | None, list[s
     return whole, answers
 
 
-def count_told(folder: str, kind: str, is_due: Callable[[str], bool], check: Callable[[str], bool]) -> int:
-    """How many refused requests are reported by a service. What it prints, apart from their number, is due without refusals; with one
-    `check` is true of it. Each is reported at most once. More than half of all requests are those of the calls."""
+def all_told(folder: str, kind: str, is_due: Callable[[str], bool], check: Callable[[str], bool]) -> None:
+    """A service reports refused requests. What it prints, apart from their number, is due without refusals; with one `check` is true of
+    it. Each is reported at most once. More than half of all requests are those of the calls."""
     whole, answers = each_refused(kind, folder, BOOK)
     log, times = (whole or "").rsplit("out of memory ", 1)
     holds(is_due(log), kind, "without refusals it is not what is due", whole)
@@ -83,7 +83,6 @@ def count_told(folder: str, kind: str, is_due: Callable[[str], bool], check: Cal
                 holds(check(log), kind, "neither the log that was due nor a clean beginning of it", answer)
                 told += 1
     holds(2 * told > len(answers), "at most half of the requests are told", kind, told, answers)
-    return told
 
 
 def sent_in_a_login(command: Command, folder: str, number: int) -> tuple[list[int], int, int]:
@@ -111,7 +110,6 @@ def clients_are_told_what_is_saved(folder: str) -> None:
             holds(after > max(told, default=-1), "a counter passes that the book does not have as spent", told, after)
             cut += told != [0, 1]
     holds(cut > 0, "whichever request is refused, the client is told of both codes", requests)
-    print(f"refused_calls.py: {requests} requests of a login are refused, and {cut} of them keep its client from a reply")
 
 
 def is_clean(folder: str, log: str) -> bool:
@@ -132,26 +130,22 @@ def is_whole(printed: str) -> bool:
 
 def calls_are_made_again(folder: str) -> None:
     """If a call of a desk is refused memory, the same call again leads to the log that was due, and has sent and saved what was due."""
-    told = count_told(folder, "calls", is_whole, is_whole)
-    print(f"refused_calls.py: {told} requests of the calls of a desk are refused")
+    all_told(folder, "calls", is_whole, is_whole)
 
 
 def turns_are_taken_again(folder: str) -> None:
     """If a turn of a desk is refused memory, the same line again leads to the log that was due."""
-    told = count_told(folder, "turns", LOGGED.__eq__, LOGGED.__eq__)
-    print(f"refused_calls.py: {told} requests of turns of a desk are refused")
+    all_told(folder, "turns", LOGGED.__eq__, LOGGED.__eq__)
 
 
 def a_service_can_be_ended(folder: str) -> None:
     """If a service is refused memory, it ends with a clean log: some first lines of the one that was due, and then its end."""
-    told = count_told(folder, "service", LOGGED.__eq__, lambda log: is_clean(folder, log))
-    print(f"refused_calls.py: {told} requests of a whole service are refused")
+    all_told(folder, "service", LOGGED.__eq__, lambda log: is_clean(folder, log))
 
 
 def calls_of_a_hall_are_made_again(folder: str) -> None:
     """If a call of a hall is refused memory, the same call again leads to the log that was due."""
-    told = count_told(folder, "hall", IN_HALL.__eq__, IN_HALL.__eq__)
-    print(f"refused_calls.py: {told} requests of the calls of a hall are refused")
+    all_told(folder, "hall", IN_HALL.__eq__, IN_HALL.__eq__)
 
 
 def texts_are_written_again(folder: str) -> None:
@@ -168,7 +162,6 @@ def texts_are_written_again(folder: str) -> None:
             holds(len(told) <= 1, "one refused request is reported by several texts", answer)
             refused.update(told)
     equal(refused, set(range(len(TEXTS))), [TEXTS[number] for number in range(len(TEXTS)) if number not in refused])
-    print(f"refused_calls.py: each of {len(TEXTS)} texts is refused memory")
 
 
 def changed_again(folder: str, book: str) -> list[int]:
@@ -197,10 +190,7 @@ def changed_again(folder: str, book: str) -> list[int]:
 def books_are_changed_again(folder: str) -> None:
     """A book with a token, and one without accounts: the first account of a book needs memory, and the second has room already."""
     reading, writing, adding = map(sum, zip(*[changed_again(folder, book) for book in (BOOK, NO_ACCOUNTS)]))
-    for trial, (what, count) in each([("reading a book", reading), ("writing it", writing), ("enrol", adding)]):
-        with trial:
-            holds(count > 0, f"no request of {what} is refused")
-    print(f"refused_calls.py: {reading} requests of reading a book, {writing} of writing it, {adding} of enrol are refused")
+    holds(reading and writing and adding, "no request of reading a book, of writing it or of enrol is refused", reading, writing, adding)
 
 
 suite.run_all()

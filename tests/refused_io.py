@@ -99,7 +99,6 @@ def all_harmless(folder: str, how: str) -> None:
             count += len(made)
             again += sum(calls > here.calls for calls in made)
     holds(2 * again > count, "at most half of the reads and writes are made again", how, again, count)
-    print(f"refused_io.py: {count} reads and writes {how}, of which {again} are made again")
 
 
 def every_call_is_known(folder: str) -> None:
@@ -177,7 +176,6 @@ def all_told(folder: str, how: str, calls: str) -> None:
     untold = {it for it in NOT_TOLD if it[1] in calls.split(",")}
     equal(untold - {*names}, set(), "calls of NOT_TOLD that no command makes, or whose failures are all told")
     holds(2 * told > len(names), "at most half of the calls are told", told, len(names))
-    print(f"refused_io.py: {len(names)} calls {how}, of which {told} are told")
 
 
 def calls_that_are_refused(folder: str) -> None:
@@ -192,15 +190,13 @@ def calls_that_are_late(folder: str) -> None:
 
 def other_calls_that_are_interrupted(folder: str) -> None:
     """Any other call that is interrupted is made again, or is told as one that failed, unless NOT_TOLD has it. The book is whole."""
-    here, told, again = Turns(folder), 0, 0
+    here = Turns(folder)
     for trial, command in each([*commands(), new_book()]):
         with trial:
             runs = [(untold, here.calls) for untold in failures(here, command, "interrupted", OTHERS)]
             for untold, calls in runs:
                 is_again = calls > here.calls
                 holds(untold is None or untold in NOT_TOLD or is_again, untold, "it is neither made again nor told")
-                told, again = told + (untold is None), again + is_again
-    print(f"refused_io.py: {told + again} other calls interrupted, of which {told} are told and {again} made again")
 
 
 suite.run_all()

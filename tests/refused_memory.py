@@ -14,7 +14,7 @@ from checks import equal, holds
 from command_table import Command, book_of, commands, is_done, is_front, is_kept, left, new_book, prepare, printed_begins_clean, run
 from expected import AUDITS, DATA
 from processes import ran
-from suite import PROGRAM, each, fault_text
+from suite import PROGRAM, each, fault_text, within
 
 # What a command reports if memory runs out, whatever it needed it for (docs/FORMATS.md).
 FAULT = fault_text("no memory")
@@ -112,14 +112,12 @@ def requests_told(command: Command, here: str, shim: str, lasting: dict[str, str
 def commands_are_refused(folder: str) -> None:
     """Whichever request of a command is refused, by itself or with all after it, it ends well, or with a fault after what it could print;
     what it reported is saved."""
-    here, shim, told, count = os.path.join(folder, "files"), shims.built("refuse_memory"), 0, 0
-    os.mkdir(here)
+    here, shim, told, count = str(within(folder, "files")), shims.built("refuse_memory"), 0, 0
     for trial, (command, lasting) in each(itertools.product([*commands(), new_book()], [{}, {"LASTING": "1"}])):
         with trial:
             requests, of_command = requests_told(command, here, shim, lasting)
             count, told = count + requests, told + of_command
     holds(2 * told > count, "at most half of the requests are told", told, count)
-    print(f"refused_memory.py: {count} requests of all commands are refused, of which {told} are told")
 
 
 suite.run_all()

@@ -17,7 +17,6 @@ def first_steps(folder: str) -> None:
     """Each command of the story prints what the document shows, and ends with that status."""
     equal([word for word in NEEDED if not any(word in command for command, *_ in steps(STORY))], [], "what the story lacks")
     shows(folder, STORY)
-    print(f"story.py: {len(steps(STORY))} commands do as README says")
 
 
 def no_server(folder: str) -> None:

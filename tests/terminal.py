@@ -56,48 +56,38 @@ def prepare(folder: str, words: list[str]) -> None:
         book.write_text(keys + hotp(look_ahead=3, limit=3))
 
 
-def start(words: list[str], **terminals: int) -> Running:
-    """Starts the program at a terminal."""
-    return Running([PROGRAM, *words], **terminals)
-
-
-def both_are_terminals(folder: str) -> None:
-    """The prompt is shown before anything is typed, and then what is typed is shown."""
-    for trial, (words, typed, printed, said) in each(commands(folder)):
+def at_a_terminal(folder: str, *streams: str) -> None:
+    """Runs each command with these streams at a terminal. If both are, the prompt is shown before anything is typed; else there is none.
+    What is typed is shown."""
+    for trial, (words, typed, printed, prompt) in each(commands(folder)):
         with trial:
             prepare(folder, words)
             with Terminal() as terminal:
-                run = start(words, stdin=terminal.end, stderr=terminal.end)
+                run = Running([PROGRAM, *words], **dict.fromkeys(streams, terminal.end))
+                said, is_typed = prompt if len(streams) == 2 else "", "stdin" in streams
                 until = time.monotonic() + LIMIT_OF_LINES
                 while terminal.shown != said and time.monotonic() < until:
                     terminal.see(0.05)
                 equal(terminal.shown, said, words, "what is shown before anything is typed")
-                terminal.type(typed + END)
-                run.ends(0, printed)
-                equal(terminal.all_shown(), said + typed.replace("\n", "\r\n"), words, "what is shown")
+                if is_typed:
+                    terminal.type(typed + END)
+                run.ends(0, printed, text="" if is_typed else typed)
+                equal(terminal.all_shown(), said + typed.replace("\n", "\r\n") * is_typed, words, "what is shown")
+
+
+def both_are_terminals(folder: str) -> None:
+    """The prompt is shown before anything is typed, and then what is typed is shown."""
+    at_a_terminal(folder, "stdin", "stderr")
 
 
 def input_is_a_terminal(folder: str) -> None:
     """No prompt is shown if standard error is no terminal; what is typed is still shown."""
-    for trial, (words, typed, printed, _) in each(commands(folder)):
-        with trial:
-            prepare(folder, words)
-            with Terminal() as terminal:
-                run = start(words, stdin=terminal.end)
-                terminal.type(typed + END)
-                run.ends(0, printed)
-                equal(terminal.all_shown(), typed.replace("\n", "\r\n"), words, "what is shown")
+    at_a_terminal(folder, "stdin")
 
 
 def faults_are_a_terminal(folder: str) -> None:
     """No prompt is shown if standard input is no terminal."""
-    for trial, (words, typed, printed, _) in each(commands(folder)):
-        with trial:
-            prepare(folder, words)
-            with Terminal() as terminal:
-                run = start(words, stderr=terminal.end)
-                run.ends(0, printed, text=typed)
-                equal(terminal.all_shown(), "", words, "what is shown")
+    at_a_terminal(folder, "stderr")
 
 
 def nothing_to_wait_for(folder: str) -> None:
@@ -116,7 +106,7 @@ def nothing_to_wait_for(folder: str) -> None:
         with trial:
             book.write_text(BOOK_OF_USER)
             with Terminal() as terminal:
-                run = start(words, stdin=terminal.end, stderr=terminal.end)
+                run = Running([PROGRAM, *words], stdin=terminal.end, stderr=terminal.end)
                 run.ends(status, printed)
                 equal(terminal.all_shown(), said, words, "what is shown")
 

@@ -90,7 +90,6 @@ def long_logs(folder: str) -> None:
     path = pathlib.Path(folder, "log")
     path.write_bytes(b"SCRAMLOG 1\n" + SESSION_LEFT * 330000)
     taken, limit = time_of(["upgrade", "--log", path]), time_of(KEYS, "pencil\n")
-    print(f"upgrades.py: 990000 lines in {taken:.2f} s of processor time; at most {limit:.2f} s are allowed")
     holds(taken < limit, "990000 lines take as many seconds of processor time as those keys", taken, limit)
 
 

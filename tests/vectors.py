@@ -29,12 +29,10 @@ def codes(row: dict[str, str]) -> tuple[list[str], str, str]:
 
 def each_row(name: str, case: Callable) -> None:
     """Compares what is printed for each row of a table."""
-    rows = rows_of(VECTORS / name)
-    for trial, (number, row) in each(enumerate(rows, 2)):
+    for trial, (number, row) in each(enumerate(rows_of(VECTORS / name), 2)):
         with trial:
             words, line, want = case(row)
             prints([PROGRAM, *words], line, 0, want, "", f"{name}: line {number}, by {row['source']}")
-    print(f"vectors.py: {name}: {len(rows)} rows as made elsewhere")
 
 
 def table_of_keys(folder: str) -> None:
