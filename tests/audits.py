@@ -1,11 +1,9 @@
 #!/usr/bin/env python3
-"""Compares the built program's answers to recorded logs, most of them faulty, with a table.
+"""Compares the built program's answers to recorded logs, most of them faulty, with data/audits/cases.csv.
 
-The table is data/audits/cases.csv, as audit_cases.py reads it. The logs were put together by hand: sha1.log from the example of RFC 5802,
-section 5, and sha256.log from that of RFC 7677, section 3; twice.log, which docs/SECURITY.md names, and interleaved.log from sha1.log
-and codes of RFC 4226. The keys in their books were computed with Python's hashlib. Then come a login whose challenge has an extension,
-with a proof made by Python's hmac; logins by two accounts and both mechanisms in turn; logs of a million lines; logs that are pipes;
-progress shown at a terminal; files that can't be read; and a book that another run holds.
+The logs were put together by hand: sha1.log from the example of RFC 5802, section 5, and sha256.log from that of RFC 7677, section 3;
+twice.log, which docs/SECURITY.md names, and interleaved.log from sha1.log and codes of RFC 4226. The keys in their books were computed
+with Python's hashlib. Then come logs that this script makes, and ways to read a log.
 """
 import fcntl
 import hashlib

@@ -1,9 +1,7 @@
 #!/usr/bin/env python3
 """What the commands on an account book print, in which order they check things, and what they leave in its folder.
 
-Which books can't be read or saved; whose a saved book is, even if a group shares it or its owner is not in its group; names that TOML has
-to quote; each line's reply; which random bytes go where. When root runs it, the program runs as the user nobody in tests of permissions.
-Takes the 30 seconds for which runs wait for a lock.
+When root runs it, the program runs as the user nobody in tests of permissions. Takes the 30 seconds for which runs wait for a lock.
 """
 import fcntl
 import itertools

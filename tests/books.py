@@ -1,12 +1,6 @@
 #!/usr/bin/env python3
 """Tests of the commands on an account book that need processes: runs at the same time, runs that are killed, links, modes, access lists,
-which files a run opens, files that take the book's place, and how paths are shown.
-
-Twenty runs at once with one code, of which one passes; six at once that make one book, of which two are killed; two hundred runs that are
-killed before one of their calls. A book that another run holds, and that it is held until the last save; files, links and pipes that take
-its place while a run waits; keys that are made before the book is held; a text that is too long; and paths with control characters. Needs
-`cc`.
-"""
+which files a run opens, files that take the book's place, and how paths are shown. Needs `cc`."""
 import ctypes
 import errno
 import fcntl

@@ -2,9 +2,7 @@
 """Checks the completions of bash, zsh and fish in completions/.
 
 Those of bash are called in a bash without settings, and tried at its prompt: what is typed there is completed and run, with a function in
-the place of the program that notes its words. Names of accounts are hostile ones: none may run anything, or become two words. In zsh, where
-it is installed, a few are tried in the same way, and fish is asked for all. In each shell the commands and options have to be those of the
-help.
+the place of the program that notes its words. Those of zsh, where it is installed, are tried in the same way, and fish is asked for its.
 """
 import contextlib
 import itertools

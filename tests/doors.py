@@ -1,11 +1,9 @@
 #!/usr/bin/env python3
 """Logs in at real mail servers whose logins `hosts/serve-dovecot-auth` judges, with real clients, and audits the logs.
 
-Postfix, Exim and Dovecot serve on the loopback, over TLS, configured as docs/DOORS.md says. msmtp, gsasl, curl, swaks and mbsync log in by
-SCRAM-SHA-256, SCRAM-SHA-1, PLAIN and LOGIN, with the right password, a wrong one, and names that have no account or are odd, and act as
-others. Two hundred users log in while the log changes, clients give up, and two doors serve two books. The journal of the door has to say
-the same as the client, and Dovecot's own service the same as the door, but where docs/DOORS.md says that they differ. `needs.py --install`
-installs these servers and clients; Exim, which can't be installed beside Postfix, it unpacks. What is missing is not tested, and said.
+Postfix, Exim and Dovecot serve on the loopback, over TLS, configured as docs/DOORS.md says. The journal of the door has to say the same as
+the client, and Dovecot's own service the same as the door, but where docs/DOORS.md says that they differ. `needs.py --install` installs
+these servers and clients; Exim, which can't be installed beside Postfix, it unpacks. What is missing is not tested, and said.
 """
 import contextlib
 import imaplib

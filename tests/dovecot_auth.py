@@ -1,10 +1,6 @@
 #!/usr/bin/env python3
-"""Connects mail servers to `hosts/serve-dovecot-auth` by Dovecot's authentication protocol, and audits each log that it leaves.
-
-A server that sends anything but the protocol, or does not read, is cut off, and others are served meanwhile. Logins by SCRAM, PLAIN and
-LOGIN are judged as the book demands, whatever becomes of their clients and of the log, which may change in the middle. The journal has a
-line for each, and neither it nor a log has a password. The mail servers are this script: doors.py has real ones.
-"""
+"""Connects mail servers to `hosts/serve-dovecot-auth` by Dovecot's authentication protocol, and audits each log that it leaves. The mail
+servers are this script: doors.py has real ones."""
 import contextlib
 import os
 import random

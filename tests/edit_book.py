@@ -1,10 +1,6 @@
 #!/usr/bin/env python3
-"""Edits books by `tools/edit-book`, by an editor and by commands, and checks what is left of each edit.
-
-An edit is saved, or leaves the book as it was and says why: the text is no book, the command or the editor fails or is stopped, the new
-text can't be saved, or the book or its folder are another's. No edit loses what a run or another edit changes at the same time. Takes the
-30 seconds for which an edit waits for a book.
-"""
+"""Edits books by `tools/edit-book`, by an editor and by commands, and checks what is left of each edit: it is saved, or leaves the book as
+it was and says why. Takes the 30 seconds for which an edit waits for a book."""
 import fcntl
 import os
 import re

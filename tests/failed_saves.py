@@ -2,9 +2,8 @@
 """Books that can't be saved, at each save of a run of the built program: sometimes the old text stays, sometimes the new one takes its
 place.
 
-In 108 runs of `verify`, `login` and `hall`, the save of the first, second or third code fails; and in runs of each command that saves, the
-first save. The run halts there: it prints no reply that is not saved. Another run, which goes on from the saved book, is sent the same
-codes, and no code passes again that has passed. Each log is audited by the book that it began with. Needs `cc`.
+The run halts there: it prints no reply that is not saved. Another run, which goes on from the saved book, is sent the same codes, and no
+code passes again that has passed. Each log is audited by the book that it began with. Needs `cc`.
 """
 import itertools
 import os

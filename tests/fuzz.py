@@ -2,13 +2,10 @@
 """Gives the built program random input: words of `code` and `keys`; lines of `verify`, for tokens with random keys; and books, logs and
 events of a hall, a few edits from good ones.
 
-Every run has to end within 2 seconds of processor time, not by a signal, with status 0, 1 or 2 and a documented fault. If a
-command accepts its input, Python checks what follows: the code (RFC 4226, RFC 6238) and the keys (RFC 5802); the replies to lines and the
-token that they leave, by token_model.py; the text of the book, with tomllib, and that a second save leaves it as it is; that a log's lines
-before the one at fault begin a clean log, that a report has the rows of these which log_reader.py finds, and that an upgraded log has the
-same answer; and that the log of a hall's events is clean. An input with any other result, or that the program accepts and Python does not,
-is kept as a file fuzz-KIND-SEED-NUMBER in the folder in which the script was started, and ends its test. Some inputs of each kind have to
-be accepted, so that not only refusals are tested.
+Every run has to end within 2 seconds of processor time, not by a signal, with status 0, 1 or 2 and a documented fault. If a command
+accepts its input, Python checks what follows. An input with any other result, or that the program accepts and Python does not, is kept as
+a file fuzz-KIND-SEED-NUMBER in the folder in which the script was started, and ends its test. Some inputs of each kind have to be
+accepted, so that not only refusals are tested.
 
 COUNT in the environment, by default 300, is how many inputs of each kind are tried. Each is made from SEED, by default 1, and its own
 number.

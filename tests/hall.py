@@ -1,11 +1,6 @@
 #!/usr/bin/env python3
-"""What the built program prints for many sessions over one book, and how it leaves the book. clients.py computes the logs that are
-due, and the program itself audits most logs, by the book that the hall began with.
-
-The tests: published logins and codes; 64 sessions and those that come after them; three sessions in all 1680 orders of their turns, each
-with the same lines as when it runs by itself; codes of one account by many sessions; texts that are not lines; first messages that ask for
-channel binding or have extensions; and 64 logins with codes, in a thousand random orders.
-"""
+"""What the built program prints for many sessions over one book, and how it leaves the book. clients.py computes the logs that are due,
+and the program itself audits most logs, by the book that the hall began with."""
 import itertools
 import os
 import random

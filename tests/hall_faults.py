@@ -1,10 +1,5 @@
 #!/usr/bin/env python3
-"""How halls of the built program end early: what they have printed by then, the fault, the status, and what is saved.
-
-Input lines that are not events, or that name a session which is not open: the log so far stands, and the saved book agrees with it. A
-book that can't be saved while sessions are open, which halts the hall; files that are not books, and books that another run holds; and an
-input or an output that fails.
-"""
+"""How halls of the built program end early: what they have printed by then, the fault, the status, and what is saved."""
 import resource
 import socket
 import time

@@ -1,10 +1,6 @@
 #!/usr/bin/env python3
-"""Logs in at hosts of the package `scramotp_host`, in this process, and audits each log that they leave.
-
-Two hundred logins at a time go on over changes of the log, and while `scramotp-host ctl` unlocks, enrols and edits. None is refused, each
-log is clean, and LOG.clients has the client of each session. Logins that are idle give way, addresses that fail or send too much are not
-heard, and the operator's program is told of a log that is not clean. If the hall is killed, or can't save, the host says so.
-"""
+"""Logs in at hosts of the package `scramotp_host`, in this process, and audits each log that they leave: each is clean, and LOG.clients
+has the client of each session."""
 import asyncio
 import errno
 import fcntl

@@ -1,11 +1,6 @@
 #!/usr/bin/env python3
-"""Installs the built program with `make install`, below temporary folders, and runs it with `make run`.
-
-The program, the tools in tools/, the hosts in hosts/ with their units, the documents, the man pages and the completions are put where
-DESTDIR and PREFIX say, even if a name has a space, and no other file is. A program that is not built, or is older than its sources, is
-refused. `make run` prints the keys of RFC 5802's example, which are those from Python's hashlib. If the program is not built or is old, it
-compiles the sources; here stand-ins for rt and Python take their place, since that takes over a minute. Needs `make`.
-"""
+"""Installs the built program with `make install`, below temporary folders, and runs it with `make run`. Where that would compile the
+sources, stand-ins for rt and Python take their place, since that takes over a minute. Needs `make`."""
 import os
 import pathlib
 import shutil

@@ -1,12 +1,9 @@
 #!/usr/bin/env python3
-"""What the machine can do to each command of the built program, and what has to be true afterwards, as one table.
+"""What the machine can do to each command of the built program, and what has to be true afterwards, as one table; then signals, and many
+runs at once.
 
-A full device, streams that are closed, a pipe that nobody reads, a folder in which nothing can be written, a device without room for the
-book, a clock that is set back, or is before 1970 or after the year 9999, a random file that ends, and too few descriptors. TERM, INT, HUP
-and KILL before each call by which a command changes what others see, and while it waits for input; STOP and CONT, by which nothing is
-lost, while it waits for input and at random moments; twenty runs of each command at once, and ten times twenty of all together. Each run
-ends with the status and the fault in the table, has printed what it says, and leaves that book and no other file. When root runs the
-script, the program runs as the user nobody in tests of permissions. Needs `cc`.
+Each run ends with the status and the fault in the table, has printed what it says, and leaves that book and no other file. When root runs
+the script, the program runs as the user nobody in tests of permissions. Needs `cc`.
 """
 import collections
 import concurrent.futures

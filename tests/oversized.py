@@ -1,9 +1,8 @@
 #!/usr/bin/env python3
 """Gives the built program messages, lines, inputs and logs at their limits and one byte longer, and input that never ends.
 
-clients.py and expected.py compute what is due at a limit from RFC 5802 and RFC 4226. Endless input is made while the run reads it, and
-the run's peak memory early and late is compared: `verify`, `login` and `hall` judge all codes in the first 16777216 bytes with at most 256
-KiB more than the first thousand, and an audit of a million lines takes at most 256 KiB more than one of their first ten.
+clients.py and expected.py compute what is due at a limit from RFC 5802 and RFC 4226. Endless input is made while the run reads it, and the
+run's peak memory late is at most 256 KiB more than early.
 """
 import array
 import fcntl

@@ -1,9 +1,8 @@
 #!/usr/bin/env python3
 """Lets users in by PAM: passwords by `hosts/check-login`, and one-time codes by `tools/check-code`, both run by pam_exec.
 
-The commands are first run by themselves, as pam_exec runs them, with hostile input among it. Then pamtester asks PAM, with the services
-that docs/DOORS.md shows. The log of the logins is audited. Needs pamtester and libpam-wrapper, which lets PAM read its services from a
-folder. systemd.py has both at a real sshd.
+The commands are first run by themselves, as pam_exec runs them. Then pamtester asks PAM, with the services that docs/DOORS.md shows. Needs
+pamtester and libpam-wrapper, which lets PAM read its services from a folder. systemd.py has both at a real sshd.
 """
 import contextlib
 import os

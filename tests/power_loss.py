@@ -2,11 +2,8 @@
 """What a loss of power may leave of a book, at each moment of runs of the built program. No power is lost: the script works out, from the
 calls that a run has made, what a device may have kept by the rules of power_model.py.
 
-Runs of `verify`, `login`, `hall`, `unlock` and `enrol`, also of a new book. In each state that a loss may leave before their first call or
-after any, the book is whole: it has each save that was reported by then, and at most one more. It still is if the power goes again in the
-next run. The program goes on from there, and saves what is due: a code that was reported as passed fails when it is sent again, one that
-was reported as failed is counted, a name that was reported as enrolled is taken, a token that was reported as unlocked takes a code, and
-no other file is left. Needs `cc`.
+In each state that a loss may leave before the first call of a run or after any, the book is whole: it has each save that was reported by
+then, and at most one more. The program goes on from there, saves what is due, and leaves no other file. Needs `cc`.
 """
 import os
 import pathlib

@@ -3,10 +3,8 @@
 prints.
 
 bash runs each in a folder of its own, and then all but the first in one folder, in their order. Of a systemd unit, the command and the
-credentials are used, except those of the timer, and `systemd-analyze verify` reads it, if the machine has that. The block of `serve-hall`
-is run by serve_hall.py, and edit_book.py and tools.py try the tools where no recipe leads. `make install`, `useradd`, sudo and systemd are
-not run. Codes, keys and verifiers are those of RFC 4226 and RFC 7677, from keys.csv (made by Dovecot), or from Python's hashlib. Any other
-block that no test runs is a fault.
+credentials are used, except those of the timer. The block of `serve-hall` is run by serve_hall.py. Codes, keys and verifiers are those of
+RFC 4226 and RFC 7677, from keys.csv (made by Dovecot), or from Python's hashlib. Any other block that no test runs is a fault.
 """
 import base64
 import fcntl

@@ -2,10 +2,8 @@
 """Makes each system call of each command of the built program go wrong in turn, one in each run.
 
 A call that fails, whether or not it was made, leaves the book whole, with each change that was reported and at most one more. The output
-is the beginning of what is due, or the log of a desk that halted. The fault is the one of docs/FORMATS.md for the file of the call, and for
-what the command was doing with it: FAULTS has them. It is reported with status 3, except that of a call that NOT_TOLD names, which loses
-nothing. A read or a write that is interrupted, or moves only one of several bytes, changes nothing. Another call that is interrupted is
-made again, or is reported like one that fails. What the program takes from the C library can all go wrong here or in refused_memory.py, or
+is the beginning of what is due, or the log of a desk that halted. The fault is that of FAULTS, reported with status 3, except that of a
+call that NOT_TOLD names, which loses nothing. What the program takes from the C library can all go wrong here or in refused_memory.py, or
 is listed as harmless. Needs `cc` and `nm`.
 """
 import os

@@ -2,12 +2,7 @@
 """Connects clients to `tools/serve-hall`, which runs a hall for them, and audits the log that it leaves.
 
 The tool is started as in the block of docs/OPERATING.md. What the clients send and have to receive is computed with Python's hashlib and
-hmac. A code is judged by the moment at which it comes. The tool goes on if a client is gone before it is greeted, is the 65th, sends a
-line in pieces or no whole line, does not read what it is sent, or sends 16 MB without the end of a line. If its hall is killed, it ends at
-the next event, and says why. It ends with status 0 at INT, TERM and HUP, and with status 1 and a fault if a code can't be saved, or if the
-log can't be written. No hall begins if the log or the socket is there already, as after a run that was killed, or if the copy of the book
-would take the book's place. If the hall does not begin, or a signal comes before it has, nothing is left. Nobody else can read the log, the
-copy of the book, and the file that says whose the sessions were.
+hmac.
 """
 import contextlib
 import fcntl

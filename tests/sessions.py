@@ -1,10 +1,5 @@
 #!/usr/bin/env python3
-"""Audits logs of many sessions with the built program: logs of version 2, in which each line has its session's number.
-
-Three sessions in all 1680 orders of their turns: each log is clean, and if one session's outcome is turned around, that line is at
-fault, with the same outcome due in every order. 64 logins with codes, in random orders: replies follow the order of the whole log. 64
-open sessions and a 65th that is turned away; numbers that are bad, or not due; and the longest lines.
-"""
+"""Audits logs of many sessions with the built program: logs of version 2, in which each line has its session's number."""
 import pathlib
 import random
 from collections.abc import Iterable

@@ -1,11 +1,5 @@
 #!/usr/bin/env python3
-"""Upgrades logs of version 1 with the built program, and audits the logs of version 2 that it prints.
-
-Each log of data/audits/cases.csv: a log of version 1 whose lines all have a line's form is upgraded, and the audit's answer stays the same,
-except if a first line is repeated; each other log is refused, at no line before the first at fault. Then the text of a log line by line,
-faults and what is printed for them, limits, logs that are pipes, and a log of 990000 lines in less processor time than `keys` takes for a
-count of 2000000.
-"""
+"""Upgrades logs of version 1 with the built program, and audits the logs of version 2 that it prints."""
 import pathlib
 import re
 import subprocess
