@@ -20,7 +20,7 @@ from kills import kill_before_any_call
 from processes import Running, processor_time, ran, taken, until, whole
 from suite import (
     BOOK_OF_USER, CODES, MOST_BYTES, PROGRAM, BookFolder, code, each, fault_text, hotp, is_locked, mode_of, prints, read_book, seen,
-    verify_words,
+    verify_words, within,
 )
 
 BOOK = BOOK_OF_USER + hotp(look_ahead=3, limit=100)
@@ -158,8 +158,7 @@ def one_lock(folder: str) -> None:
 
 def swapped(folder: str) -> None:
     """A file that takes the book's path while a run waits for input is not overwritten, and the run ends."""
-    held = pathlib.Path(folder, "held")
-    held.mkdir()
+    held = within(folder, "held")
     here = BookFolder(held, BOOK)
     other, away = held / "other", held / "away"
 

@@ -9,7 +9,7 @@ from pathlib import Path
 
 from checks import equal
 from processes import Answer, ran, until
-from suite import PROGRAM, TOP
+from suite import PROGRAM, TOP, within
 
 # Makes the root of the machine in a folder, and becomes its first process. Nothing that this machine would start is started there.
 BOOT = r"""
@@ -72,8 +72,7 @@ class Machine:
 @contextlib.contextmanager
 def booted(folder: str | Path) -> Iterator[Machine]:
     """A machine on which the package for Debian of the program is installed."""
-    place = Path(folder, "machine")
-    place.mkdir()
+    place = within(folder, "machine")
     program = Path(folder, "scramotp")
     program.write_bytes(Path(PROGRAM).read_bytes())
     program.chmod(0o755)

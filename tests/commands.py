@@ -14,7 +14,7 @@ from expected import DATA, HASHES, keys_of
 from help_pages import example_ran, help_of, listed_commands
 from processes import ran
 from suite import (
-    BOOK_OF_USER, KEYS_OF_PENCIL, PROGRAM, SALT, SECRET, SEEDS, BookFolder, each, fault_text, hotp, prints, read_book, totp,
+    BOOK_OF_USER, KEYS_OF_PENCIL, PROGRAM, SALT, SECRET, SEEDS, BookFolder, each, fault_text, hotp, prints, read_book, totp, within,
 )
 
 # 64 bytes
@@ -211,8 +211,7 @@ def examples_alone(folder: str) -> None:
     for trial, (command, _) in each(EXAMPLES):
         with trial:
             before, _ = example_of(command)
-            place = Path(folder, command)
-            place.mkdir()
+            place = within(folder, command)
             for needed in [*before, command]:
                 runs_example(place, needed)
 

@@ -4,21 +4,17 @@ conditional jumps go.
 
 Usage: coverage.py [--notes FILE] [--missed] PROGRAM [SCRIPT ..]
 
-By default all scripts run that run.py runs. Only functions of this repository's crates count, by the names that `nm` lists. What the
-compiler has put into another function counts there. A basic block begins where a function does, after a conditional jump, and where a jump
-goes, also by a table. Each conditional jump can go two ways.
-
-For each crate it prints how many functions and blocks were entered, and how many ways of conditional jumps were taken, of how many; and
-then the functions that were never entered. With --missed it also prints, by function, the first instruction of each block that was not
-entered and its calls, and each way that was not taken to a block that was entered otherwise. With --notes, what was seen is kept in FILE,
-and a later run of the same program adds to it. With `none` as the only script nothing is run.
+By default all scripts run that run.py runs, and with `none` nothing. Only functions of this repository's crates count, by the names that
+`nm` lists. What the compiler has put into another function counts there. A basic block begins where a function does, after a conditional
+jump, and where a jump goes, also by a table. For each crate it prints how many functions and blocks were entered, and how many ways of
+conditional jumps were taken, of how many; and then the functions that were never entered.
 
 The scripts get a small program in the program's place. It loads note_jumps.c before the C library, and then becomes the program, so the
 process, its streams and its signals are the usual ones. A run that can't load it, as one with too few descriptors, is not seen. Nor is a
-jump watched further in a run in which it has gone one way 20000 times. Needs `cc`, and of binutils `nm`, `objdump` and `readelf`; and a
-program for x86-64 that has its names.
+jump watched further in a run in which it has gone one way 20000 times. Needs `cc`, and of binutils `nm`, `objdump` and `readelf`.
 """
 import argparse
+import asyncio
 import bisect
 import collections
 import os
@@ -31,10 +27,10 @@ from collections.abc import Iterable, Iterator
 from pathlib import Path
 from typing import NamedTuple
 
+import rattle
 import run
 import shims
 
-TOP = Path(__file__).resolve().parent.parent
 # What is noted of a place: that it is entered, and that its jump is passed, or taken. As in note_jumps.c.
 ENTERED, PASSED, TAKEN = 1, 2, 4
 # The head of the file of notes, and a place in it: its address and that of its jump, what is to be noted, the first byte there, and the
@@ -94,11 +90,6 @@ def printed(*words: str | Path) -> str:
     return subprocess.run(words, stdout=subprocess.PIPE, check=True, text=True, errors="replace").stdout
 
 
-def our_crates() -> set[str]:
-    """The names of this repository's crates."""
-    return set(re.findall(r"^(\w+):", (TOP / "crates.txt").read_text(encoding="utf-8"), re.M))
-
-
 def instructions(program: str) -> list[Instruction]:
     """All instructions of a program, in their order."""
     line = re.compile(r"^ *([0-9a-f]+):\t((?:[0-9a-f]{2} )+) *(?:\t(?:(?:bnd|notrack|cs|data16|rep) )*(\S+) *(.*))?$", re.M)
@@ -150,7 +141,7 @@ def function(crate: str, name: str, listed: list[Instruction], tables: Tables) -
 
 def functions(program: str) -> list[Function]:
     """The functions of this repository's crates, by address."""
-    ours, tables, listed = our_crates(), Tables(program), instructions(program)
+    ours, tables, listed = rattle.read_uses(rattle.TOP / "crates.txt"), Tables(program), instructions(program)
     addresses, found = [it.at for it in listed], {}
     for line in printed("nm", "--defined-only", "-S", program).splitlines():
         at, size, kind, *name = line.split(" ", 3) if re.match(r"\w{16} \w{16} \w ", line) else ["", "", ""]
@@ -251,12 +242,6 @@ def missed(notes: Notes) -> None:
                 print(f"\n{it.name}", *lines, sep="\n")
 
 
-def noting(program: str, notes: Path, folder: Path) -> Path:
-    """The small program that becomes the program: its path."""
-    library = shims.compiled("note_jumps", TOP / "tests" / "note_jumps.c", folder, f'-DRECORD="{notes}"')
-    return shims.loader_of(program, library, folder / "scramotp")
-
-
 def main() -> int:
     """Runs the scripts, prints what they have run of the program, and returns the exit status."""
     words = argparse.ArgumentParser(description="Measures how much of the program's machine code the scripts of tests run.")
@@ -269,19 +254,20 @@ def main() -> int:
     with tempfile.TemporaryDirectory(prefix="coverage-") as folder:
         # The user nobody enters it.
         os.chmod(folder, 0o755)
-        notes = Notes((given.notes or Path(folder, "notes")).resolve(), os.path.abspath(given.program))
-        program = noting(os.path.abspath(given.program), notes.path, Path(folder))
         # For refused_io.py, which asks what the program takes from the C library.
-        os.environ["MEASURED"] = os.path.abspath(given.program)
+        measured = os.environ["MEASURED"] = os.path.abspath(given.program)
+        notes = Notes((given.notes or Path(folder, "notes")).resolve(), measured)
+        library = shims.compiled("note_jumps", shims.HERE / "note_jumps.c", folder, f'-DRECORD="{notes.path}"')
+        program = shims.loader_of(measured, library, Path(folder, "scramotp"))
         try:
-            done = run.results(str(program), scripts)
+            done = asyncio.run(run.all_ran(run.scripts(program, scripts)))
         except KeyboardInterrupt:
             return 130
         notes.read()
     report(notes)
     if given.missed:
         missed(notes)
-    return 0 if all(passed for passed, _ in done) else 1
+    return 0 if all(it.passed for it in done.values()) else 1
 
 
 if __name__ == "__main__":

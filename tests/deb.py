@@ -21,7 +21,7 @@ from expected import DATA
 from installs import ENVIRONMENT, due_files, made
 from limits import limit
 from processes import ran
-from suite import KEYS_OF_PENCIL, PROGRAM, SALT, TOP, each, has, not_tested
+from suite import KEYS_OF_PENCIL, PROGRAM, SALT, TOP, each, has, not_tested, within
 
 # 2026-11-30 04:00 UTC: the time of each file.
 MOMENT = 1796011200
@@ -45,8 +45,7 @@ def same_bytes(folder: str) -> None:
     program that is older than its sources, the script makes nothing."""
     if not has("the package for Debian", "dpkg-deb"):
         return
-    one, other = pathlib.Path(folder, "one"), pathlib.Path(folder, "other")
-    other.mkdir()
+    one, other = pathlib.Path(folder, "one"), within(folder, "other")
     done = made("deb", shutil.copy(PROGRAM, folder), DEB_FOLDER=one, SOURCE_DATE_EPOCH=MOMENT)
     equal((done.status, done.faults), (0, ""), "make deb", done.output)
     [package] = one.iterdir()

@@ -17,7 +17,7 @@ from checks import equal
 from command_table import BOOK, LIMIT_100, Command, audited, book_of, commands, left, new_book, prepare, run
 from expected import ACCEPTED, GONE, numbered
 from processes import Answer
-from suite import CODES, each, token
+from suite import CODES, each, token, within
 
 # For the token of BOOK (RFC 4226, appendix D), a single code may be up to three counters ahead, and the first of two in a row has to be
 # the next one.
@@ -87,8 +87,7 @@ class Saves:
     ]
 
     def __init__(self, folder: str) -> None:
-        self.folder = os.path.join(folder, "files")
-        os.mkdir(self.folder)
+        self.folder = str(within(folder, "files"))
         self.shim = shims.built("refuse_io")
         self.book = pathlib.Path(self.folder, "book")
 

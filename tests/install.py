@@ -10,7 +10,7 @@ from collections.abc import Iterable
 import suite
 from checks import equal, holds
 from installs import due_files, made
-from suite import KEYS_OF_PENCIL, PROGRAM, TOP, each
+from suite import KEYS_OF_PENCIL, PROGRAM, TOP, each, within
 
 REFUSED = "The program is not built, or is older than its sources: run make build first."
 # What the Makefile takes from the PATH before it compiles the sources.
@@ -52,8 +52,7 @@ def installed(folder: str) -> None:
 
 def library_for_c(folder: str) -> None:
     """The library for C and the plug-in for Cyrus SASL are installed if they are built: here files stand in for them."""
-    built, to = pathlib.Path(folder, "built"), pathlib.Path(folder, "to")
-    built.mkdir()
+    built, to = within(folder, "built"), pathlib.Path(folder, "to")
     due = {"lib/libscramotp.a": "a", "lib/libscramotp.so.0": "so", "lib/scramotp/sasl2/libscramotp-cyrus.so": "plug-in"}
     for path, text in due.items():
         (built / pathlib.Path(path).name).write_text(text)

@@ -29,7 +29,7 @@ from command_table import (
 )
 from expected import GONE, numbered
 from processes import Answer, Running, whole
-from suite import NONCES, PROGRAM, ROOT, as_nobody, each, fault_text, nobody, totp
+from suite import NONCES, PROGRAM, ROOT, as_nobody, each, fault_text, nobody, totp, within
 from wrong_calls import CHANGES, Call, Turns
 
 
@@ -66,8 +66,7 @@ class Machine:
     def __init__(self, folder: str) -> None:
         os.chmod(folder, 0o755)
         self.above = folder
-        self.folder = os.path.join(folder, "files")
-        os.mkdir(self.folder)
+        self.folder = str(within(folder, "files"))
         self.program = shutil.copy(PROGRAM, folder)
         self.clock = pathlib.Path(folder, "clock")
         self.with_clock = {**os.environ, "LD_PRELOAD": shims.built("turn_clock"), "CLOCK": str(self.clock)}

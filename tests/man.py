@@ -14,7 +14,7 @@ import suite
 from checks import equal, holds
 from help_pages import Option, example_ran, listed_commands, listed_options, required_options
 from processes import ran
-from suite import TOP, audit_says, each, has, prints
+from suite import TOP, audit_says, each, has, prints, within
 
 PAGES = sorted(Path(TOP, "man").iterdir())
 # The pages that are of no command.
@@ -152,8 +152,7 @@ def examples(folder: str) -> None:
     """The examples of each page do what it says, after those of the pages that it names."""
     for trial, page in each([it for it in PAGES if not it.name.endswith(".5") and it.name not in OF_HOSTS]):
         with trial:
-            place = Path(folder, page.name)
-            place.mkdir()
+            place = within(folder, page.name)
             for it in [*asked_for(page), page]:
                 runs_examples(place, it)
 

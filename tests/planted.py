@@ -1,30 +1,19 @@
 #!/usr/bin/env python3
-"""Plants bugs, one at a time: the tests that are named beside each have to fail, and to say why.
+"""Plants bugs, one at a time: the tests that are named beside each have to fail, and to say why (docs/TESTING.md, "Bugs that are kept").
 
 Usage: planted.py [--jobs N] [--unbuilt | --changed] [--note] [BUG ..]
 
-A bug is a block of lines, as edit_sources.py reads it: its name, its tests, and an edit in the form that `rt help` describes. A test could
-fail for another reason than its bug. So a line `says` has a text that the test's output has to have when it fails: the value that is wrong,
-or what differs, as it follows from the edit. In it `..` stands for what has no space, such as a path.
+A test could fail for another reason than its bug. So a line `says` has a text that the test's output has to have when it fails: the value
+that is wrong, or what differs, as it follows from the edit. In it `..` stands for what has no space, such as a path.
 
-By default all bugs are tried, and otherwise those of these names. With --unbuilt only those for which nothing is built; and with --changed,
-of these only such whose file or script has changed since all were refused, by the checksums of tests/data/planted.sums. With --note, if
-all that were tried are refused, that file gets the checksums as they are now. Each bug is
-
-- of a crate, in crates/NAME/planted.txt: a bug for which there is a test, in most cases since no contract can speak of it. The test is in a
-  crate of tests/rattle/, and `rt try --test` runs it with all others of that crate; or it is in a script of tests/, and is run on a program
-  that unproved.py makes of the edited sources. Nothing is proved.
-- in tests/planted/, in the file of its script: of a tool, of a host, of a man page, of completions, of the script that makes the package
-  for Debian, of a page in docs/, of the Makefile, of what is around the library for C or is the plug-in with it, or of what a script makes
-  runs and their calls go wrong with, a C file or power_model.py: it then makes nothing go wrong, or in another way. Or of pass_calls.c: the
-  program itself then has the bug, in how it calls the C library. The test is run on the programs and the library for C that are built
-  already, or on those that PROGRAM, BENCH and CLIB in the environment name.
+The test of a bug in crates/NAME/planted.txt is in a crate of tests/rattle/, and `rt try --test` runs it with all others of that crate; or
+it is in a script of tests/, and is run on a program that unproved.py makes of the edited sources. That of a bug in tests/planted/ is run on
+the programs and the library for C that are built already, or on those that PROGRAM, BENCH and CLIB in the environment name. A bug of
+pass_calls.c is one of the program itself, in how it calls the C library.
 
 The script works in temporary copies of the repository, whose sources must not change meanwhile. Without an edit, each test has to pass. A
-test may say that this machine can't test all of it. If it passes with the bug then, the bug counts as not tested.
-
-A script that kills runs kills fewer of them here, as RUNS says, and one that makes input at random makes no more than by default, as COUNT
-says.
+test may say that this machine can't test all of it. If it passes with the bug then, the bug counts as not tested. A script that kills runs
+or makes input at random makes no more of them than FEWER says.
 """
 import argparse
 import contextlib

@@ -16,7 +16,7 @@ import suite
 from checks import equal, holds
 from command_table import BOOK, LIMIT_100, Command, after_codes, book_of, command_of, left, new_book, parsed_book, prepare, run, with_token
 from power_model import Folder, Note, cuts, read_notes
-from suite import CODES, each, fault_text
+from suite import CODES, each, fault_text, within
 
 # BOOK with a token that is locked.
 LOCKED = BOOK.replace("failures = 2", "failures = 3")
@@ -40,8 +40,7 @@ class Losses:
 
     def __init__(self, folder: str) -> None:
         self.noted = pathlib.Path(folder, "noted")
-        self.folder = os.path.join(folder, "files")
-        os.mkdir(self.folder)
+        self.folder = str(within(folder, "files"))
 
     def notes_of(self, command: Command) -> list[Note]:
         """Runs a command that does all its work, and returns what it did to files and told."""

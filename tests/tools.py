@@ -17,7 +17,7 @@ from blocks import (
 )
 from checks import equal, holds
 from processes import until
-from suite import BOOK_OF_USER, CODES, each, hotp
+from suite import BOOK_OF_USER, CODES, each, hotp, within
 
 
 def a_password_of_any_name(folder: str) -> None:
@@ -53,8 +53,7 @@ def headers_of_another_form(folder: str) -> None:
 def an_account_removed_meanwhile(folder: str) -> None:
     """An account that is removed while its new password is typed gets none, and is not made again."""
     enrolled(folder)
-    left = Path(folder, "left")
-    left.mkdir()
+    left = within(folder, "left")
     change = start(folder, f"exec tools/set-password book.toml {NAME}", TMPDIR=str(left))
     until(lambda: list(left.iterdir()), "the tool should wait for the password")
     book = with_tools(folder, BOOK_OF_USER)
@@ -137,8 +136,7 @@ def a_code_in_a_script(folder: str) -> None:
     judges(CODES[4], 1, "for an account without a token", "bare", fault="no token")
     judges(CODES[4], 1, "for a name without an account", "nobody", fault="no such account")
     judges(CODES[4], 1, "if there is no book", book="none", fault="cannot read none")
-    silent = Path(folder, "silent", "scramotp")
-    silent.parent.mkdir()
+    silent = within(folder, "silent") / "scramotp"
     silent.write_text("#!/bin/sh\n")
     silent.chmod(0o755)
     found = ran(folder, 'PATH="$PWD/silent:$PATH" tools/check-code book.toml user', CODES[4])

@@ -9,6 +9,7 @@ import shims
 from checks import equal, holds
 from command_table import Command, book_of, is_done, prepare, run
 from processes import Answer
+from suite import within
 
 # The calls that move bytes, and the other calls that refuse_io.c makes go wrong.
 MOVES = "read,write,recv,send"
@@ -41,8 +42,7 @@ class Turns:
     there."""
 
     def __init__(self, folder: str) -> None:
-        self.folder = os.path.join(folder, "files")
-        os.mkdir(self.folder)
+        self.folder = str(within(folder, "files"))
         self.shim = shims.built("refuse_io")
         self.counted = pathlib.Path(folder, "counted")
         self.calls = 0
