@@ -17,14 +17,13 @@ import sys
 import tempfile
 from collections.abc import Iterator
 
-from timed import exactly, processor
+from timed import TURNS, exactly, processor
 from expected import HASHES, base64_of, code, login_keys, proved
 
 LOGINS = 142_000
 FEW = 1_000
 ACCOUNTS = 1_000
 CODES = 200  # for each account
-TURNS = 5
 SALT = b"0123456789ab"
 SECRET = b"12345678901234567890"
 MECHANISMS = {table: mechanism for mechanism, table in HASHES.items()}

@@ -12,8 +12,8 @@ import hashlib
 import os
 import sys
 import tempfile
-import time
 import tomllib
+from timeit import timeit
 
 from timed import exactly, wall
 
@@ -60,14 +60,6 @@ secret = "{SECRET.hex()}"
     return "".join(parts)
 
 
-def by_tomllib(content: str) -> float:
-    """The seconds that tomllib takes to read a text."""
-    begun = time.perf_counter()
-    for _ in range(READINGS):
-        tomllib.loads(content)
-    return (time.perf_counter() - begun) / READINGS
-
-
 def times(program: str, bench: str, content: str) -> list[float]:
     """The least seconds of a run of bench that only reads the file, of one that also reads the book, of verify
     with no code and with one, and of tomllib."""
@@ -83,7 +75,7 @@ def times(program: str, bench: str, content: str) -> list[float]:
                 wall([bench, "book", str(READINGS), book], exactly(f"book {READINGS} of {READINGS}\n")),
                 wall(verify, exactly("")),
                 wall(verify, exactly("PASS 5 0\n"), CODE + "\n"),
-                by_tomllib(content),
+                timeit(lambda: tomllib.loads(content), number=READINGS) / READINGS,
             ))
     return [min(column) for column in zip(*turns)]
 

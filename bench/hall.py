@@ -20,12 +20,11 @@ from typing import IO
 
 from serve import LOGGED, book
 from expected import AUDITS, SHA256_NONCES
-from timed import check, processor, wall
+from timed import TURNS, best, check, processor
 
 # Each of these is a multiple of 64.
 LOGINS = 200_000
 FEW, MANY = 6_400, 1_000_000
-TURNS = 5
 # How many sessions, and a multiple of 64 logins, fit into an input of 16777216 bytes.
 SESSIONS = 700_000
 LOGINS_AS_LINES = 48_000
@@ -72,8 +71,7 @@ def logins_as_lines(count: int) -> str:
 def rate_of_program(program: str, path: str) -> float:
     """The logins per second of `hall` that are given as lines, all at once."""
     def seconds_of(count: int) -> float:
-        given = logins_as_lines(count)
-        return min(wall([program, "hall", "--book", path], lambda log: log.count(" S OK ") == count, given) for _ in range(TURNS))
+        return best([program, "hall", "--book", path], lambda log: log.count(" S OK ") == count, logins_as_lines(count))
     return LOGINS_AS_LINES / (seconds_of(LOGINS_AS_LINES) - seconds_of(0))
 
 
@@ -91,17 +89,12 @@ def peak(words: list, is_due: Callable[[str], bool], given: IO[bytes] | None = N
     return most
 
 
-def come_and_go(path: str, count: int) -> None:
-    """Writes input for `hall`: 63 sessions begin and stay, and `count` others begin and end, one after another."""
-    with open(path, "w") as file:
-        file.write("open z\n" * STAYING)
-        file.writelines(f"open z\ngone {number} 0\n" for number in range(STAYING + 1, STAYING + 1 + count))
-
-
 def of_program(program: str, path: str, given: str, count: int) -> int:
-    """The peak memory in KiB of a `hall` whose sessions come and go."""
-    come_and_go(given, count)
-    with open(given, "rb") as events:
+    """The peak memory in KiB of a `hall` in which 63 sessions begin and stay, and `count` others begin and end, one after another."""
+    with open(given, "w+b") as events:
+        events.write(b"open z\n" * STAYING)
+        events.writelines(b"open z\ngone %d 0\n" % number for number in range(STAYING + 1, STAYING + 1 + count))
+        events.seek(0)
         return peak([program, "hall", "--book", path], lambda printed: printed.count(" S MECHS ") == STAYING + count, events)
 
 

@@ -16,7 +16,7 @@ import subprocess
 import sys
 import time
 
-from timed import anything, exactly, wall
+from timed import TURNS, anything, best, exactly
 from expected import code
 
 COUNT = 300_000
@@ -26,7 +26,6 @@ SECRET = "12345678901234567890"
 # How many searches for two codes in a row are made, and how many codes each makes for 1000 counters.
 SEARCHES = 200
 CODES_OF_SEARCH = 1001
-TURNS = 5
 NONCE = "fyko+d2lbbFgONRv9qkxdawL3rfcNHYJY1ZVvWVs7j"
 MESSAGES = {
     "client-first": "n,,n=user,r=fyko+d2lbbFgONRv9qkxdawL",
@@ -57,30 +56,20 @@ def by_python(kind: str, text: bytes) -> float:
     return PYTHON_COUNT / (time.perf_counter() - begun)
 
 
-def best(words: list, printed: str) -> float:
-    """The least seconds, in several turns, of a run that prints this line."""
-    return min(wall(words, exactly(f"{printed}\n")) for _ in range(TURNS))
-
-
-def of_oathtool(words: list) -> float:
-    """The least seconds of oathtool, whose codes are not checked."""
-    return min(wall(words, anything, output=subprocess.DEVNULL) for _ in range(TURNS))
-
-
 def main() -> None:
     bench = sys.argv[1]
-    start = best([bench, "client-first", "1", "x"], "client-first 0")
+    start = best([bench, "client-first", "1", "x"], exactly("client-first 0\n"))
     for kind, text in MESSAGES.items():
-        ours = best([bench, kind, str(COUNT), text], f"{kind} {COUNT}") - start
+        ours = best([bench, kind, str(COUNT), text], exactly(f"{kind} {COUNT}\n")) - start
         python = max(by_python(kind, text.encode()) for _ in range(TURNS))
         print(f"read {kind}: {COUNT / ours:,.0f} a second, Python's re and base64 {python:,.0f}")
-    codes = best([bench, "hotp", str(CODES), SECRET], code(SECRET.encode(), CODES - 1)) - start
+    codes = best([bench, "hotp", str(CODES), SECRET], exactly(f"{code(SECRET.encode(), CODES - 1)}\n")) - start
     line = f"HOTP codes: {CODES / codes:,.0f} a second"
     if shutil.which("oathtool"):
         words = ["oathtool", "--hotp", "--window", str(CODES - 1), SECRET.encode().hex()]
-        line += f", oathtool {CODES / of_oathtool(words):,.0f}"
+        line += f", oathtool {CODES / best(words, anything, output=subprocess.DEVNULL):,.0f}"  # whose codes are not checked
     print(line)
-    search = (best([bench, "sync", str(SEARCHES), SECRET], f"failed {SEARCHES}") - start) / SEARCHES
+    search = (best([bench, "sync", str(SEARCHES), SECRET], exactly(f"failed {SEARCHES}\n")) - start) / SEARCHES
     print(f"two codes in a row among 1000: {CODES_OF_SEARCH / search:,.0f} codes a second, {search * 1000:.2f} ms")
 
 

@@ -13,16 +13,14 @@ import pathlib
 import sys
 import tempfile
 import time
-from collections.abc import Callable
 
 from books import mechanism
-from timed import exactly, wall
+from timed import TURNS, best, exactly, wall
 from expected import AUDITS, SHA256_NONCES, code
 
 LOGINS = 100_000
 CODES = 5_000  # one session has 10000 turns
 SAVED = 100
-TURNS = 5
 SECRET = b"12345678901234567890"
 # A recorded session is all of its log except the first line.
 LOGGED = len((AUDITS / "sha256.log").read_bytes()) - len("SCRAMLOG 1\n")
@@ -44,11 +42,6 @@ look_ahead = 0
 next = 0
 secret = "{SECRET.hex()}"
 {others}'''
-
-
-def best(words: list, is_due: Callable[[str], bool]) -> float:
-    """The least seconds of several turns. The output of each has to satisfy `is_due`."""
-    return min(wall(words, is_due) for _ in range(TURNS))
 
 
 def over_memory(bench: str, path: str) -> tuple[float, float]:

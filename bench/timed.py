@@ -7,6 +7,8 @@ import tempfile
 import time
 from collections.abc import Callable
 
+# How many runs of a kind are timed; the best counts.
+TURNS = 5
 # The values with which the scripts compare are in expected.py of the tests.
 sys.path.append(str(pathlib.Path(__file__).resolve().parent.parent / "tests"))
 
@@ -34,6 +36,11 @@ def wall(words: list, is_due: Callable[[str], bool], given: str = "", output: in
     taken = time.perf_counter() - begun
     check(words, done.returncode, done.stdout, done.stderr, is_due)
     return taken
+
+
+def best(words: list, is_due: Callable[[str], bool], given: str = "", output: int = subprocess.PIPE) -> float:
+    """The least seconds of several such runs."""
+    return min(wall(words, is_due, given, output) for _ in range(TURNS))
 
 
 def processor(words: list, is_due: Callable[[str], bool]) -> float:

@@ -12,11 +12,10 @@ import hmac
 import sys
 import time
 
-from timed import exactly, wall
+from timed import TURNS, best, exactly
 
 COUNT = 300_000
 PYTHON_COUNT = 30_000
-TURNS = 5
 AUTH = (
     b"n=user,r=rOprNGfwEbeRWgbNEkqO,"
     b"r=rOprNGfwEbeRWgbNEkqO%hvYDpWUa2RaTCAfuxFIlj)hNlF$k0,s=W22ZaJ0SNY7soEsUEjb6gQ==,i=4096,"
@@ -38,9 +37,8 @@ def by_python(macs: int) -> float:
 
 def main() -> None:
     bench = sys.argv[1]
-    start = min(wall([bench, "verdict", "1", FINAL], exactly("accepted 1\n")) for _ in range(TURNS))
-    many = [bench, "verdict", str(COUNT), FINAL]
-    ours = min(wall(many, exactly(f"accepted {COUNT}\n")) for _ in range(TURNS)) - start
+    start = best([bench, "verdict", "1", FINAL], exactly("accepted 1\n"))
+    ours = best([bench, "verdict", str(COUNT), FINAL], exactly(f"accepted {COUNT}\n")) - start
     two, four = (max(by_python(macs) for _ in range(TURNS)) for macs in (2, 4))
     print(f"verdicts: {COUNT / ours:,.0f} a second; by Python's hmac two HMACs and a hash {two:,.0f}, four {four:,.0f}")
 
