@@ -10,10 +10,11 @@ from typing import Any
 
 import expected
 import processes
+import suite
 from checks import equal, holds
 from expected import keys_of
 from processes import Answer, Running
-from suite import SECRET, TOP, private, program_on_path, read_book, seen, totp
+from suite import SECRET, TOP, program_on_path, read_book, seen, totp, written
 
 TOOLS = TOP / "tools"
 # The user of the recipes, whose name has to be quoted in a book.
@@ -124,15 +125,12 @@ def with_tools(folder: str | Path, text: str) -> Path:
     """Makes in a folder a link to the tools, and a book with this text. Returns the book's path."""
     if not Path(folder, "tools").is_symlink():
         Path(folder, "tools").symlink_to(TOOLS)
-    return private(Path(folder, "book.toml"), text)
+    return written(Path(folder, "book.toml"), text)
 
 
 def stand_in(folder: str | Path, command: str, script: str) -> Path:
     """Puts a script in the place of a command, for the blocks that run in a folder. Returns its path, so that it can be removed."""
-    path = Path(program_on_path(folder)["PATH"].partition(":")[0], command)
-    path.write_text(f"#!/bin/sh\n{script}\n")
-    path.chmod(0o755)
-    return path
+    return suite.script(Path(program_on_path(folder)["PATH"].partition(":")[0], command), script)
 
 
 def book_of(folder: str | Path) -> dict[str, Any]:

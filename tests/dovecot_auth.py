@@ -24,7 +24,7 @@ from expected import proved
 from limits import limit
 from mail_servers import GREETING, SETTINGS, Door, Server, door_of
 from processes import Running, ran, until
-from suite import PROGRAM, TOP, each, has, mode_of, private, program_on_path, within
+from suite import PROGRAM, TOP, each, has, mode_of, program_on_path, within, written
 
 USER = Account("user", "SCRAM-SHA-256")
 OLD = Account("old=user, odd", "SCRAM-SHA-1")
@@ -363,7 +363,7 @@ def limits(folder: str) -> None:
 def no_journal(folder: str) -> None:
     """A door whose standard error is closed serves, and ends well."""
     place = Path(folder)
-    words = [sys.executable, TOP / "hosts/serve-dovecot-auth", private(place / "book.toml", BOOK), place / "auth", within(folder, "logs")]
+    words = [sys.executable, TOP / "hosts/serve-dovecot-auth", written(place / "book.toml", BOOK), place / "auth", within(folder, "logs")]
     run = Running(["bash", "-c", 'exec "$@" 2>&-', "bash", *map(str, words)], env=program_on_path(folder))
     until(lambda: (place / "auth").exists() or run.process.poll() is not None, "the door should serve")
     with Server(place / "auth") as server:
@@ -448,7 +448,7 @@ def sockets(folder: str) -> None:
     door.start()
     with Server(door) as server:
         equal(server.logs_in(1, USER), OK.format(1), "a login at a socket that was left")
-    words = [TOP / "hosts" / "serve-dovecot-auth", private(Path(folder, "other.toml"), BOOK), door.socket, Path(folder, "logs")]
+    words = [TOP / "hosts" / "serve-dovecot-auth", written(Path(folder, "other.toml"), BOOK), door.socket, Path(folder, "logs")]
     second = ran([*words, "--control", Path(folder, "other")], env=program_on_path(folder))
     holds(second.status == 1 and "File exists" in second.faults, "another door serves at the same socket", second)
     with Server(door) as server:
@@ -489,7 +489,7 @@ def blocks_of_the_page(folder: str) -> None:
     """The page's commands start a door, and work on its book while it serves. Its program says whether a password is right."""
     Path(folder, "hosts").symlink_to(TOP / "hosts")
     changed = BOOK.replace("failures = 0", "failures = 100").replace("decoy_count = 4096", "decoy_count = 4095")
-    private(Path(folder, "book.toml"), changed)
+    written(Path(folder, "book.toml"), changed)
     start, work, program = PAGE.block("Start"), PAGE.block("Unlock, enrol, edit"), PAGE.block("As a library", "python")
     how = {"cwd": folder, "env": {**program_on_path(folder), "PYTHONPATH": str(TOP / "hosts")}}
     run = Running(["bash", "-c", start.replace("hosts/serve", "exec hosts/serve")], **how)

@@ -7,7 +7,6 @@ import re
 import shlex
 import shutil
 import signal
-import stat
 import time
 from concurrent.futures import ThreadPoolExecutor
 from pathlib import Path
@@ -17,7 +16,8 @@ from blocks import TOOLS, book_of, does, ran, refused, stand_in, start, told, un
 from checks import equal, holds
 from processes import LIMIT_OF_LINES, Running, Terminal, sleeps, until, whole
 from suite import (
-    BOOK_OF_USER, CODES, PROGRAM, ROOT, as_nobody, each, hotp, is_awaited, is_locked, is_root, nobody, program_on_path, seen, verify_words,
+    BOOK_OF_USER, CODES, PROGRAM, ROOT, as_nobody, each, hotp, is_awaited, is_locked, is_root, mode_of, nobody, program_on_path, script,
+    seen, verify_words,
 )
 
 
@@ -27,15 +27,14 @@ def an_editor_and_a_command(folder: str) -> None:
     book.chmod(0o644)
     os.chown(book, -1, 2345 if ROOT else [os.getegid(), *os.getgroups()][-1])
     before = book.stat()
-    editor = Path(folder, "editor")
     # As many editors do, it puts another file in the place of the one that it is given.
-    editor.write_text('#!/bin/sh\numask 022; cat "$2" >other; printf \'\\n[accounts."%s"]\\n\' "$1" >>other; rm "$2"; mv other "$2"\n')
-    editor.chmod(0o755)
+    text = 'umask 022; cat "$2" >other; printf \'\\n[accounts."%s"]\\n\' "$1" >>other; rm "$2"; mv other "$2"'
+    editor = script(Path(folder, "editor"), text)
     for edit, words in [("", {"EDITOR": f"{shlex.quote(str(editor))} 'a b@c'"}), (" sed s/4096/4097/", {})]:
         does(folder, f"umask 022; tools/edit-book book.toml{edit}", **words)
         after = book.stat()
         equal((after.st_uid, after.st_gid), (before.st_uid, before.st_gid), "the owner and the group after an edit", edit)
-        equal(stat.S_IMODE(after.st_mode), 0o600, "the mode after an edit", edit)
+        equal(mode_of(book), 0o600, "the mode after an edit", edit)
     equal(book_of(folder)["decoy_count"], 4097, "the count of decoys after an edit by a command")
     equal(set(book_of(folder)["accounts"]), {"user", "a b@c"}, "the accounts after an edit by an editor")
     equal(set(os.listdir(folder)), {"bin", "book.toml", "editor", "tools"}, "the files in the folder after the edits")

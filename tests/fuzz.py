@@ -220,17 +220,12 @@ def lines_of(text: bytes) -> list[bytes]:
 RANGES = {"--digits": (6, 8), "--counter": (0, 2**63 - 2), "--moment": (0, 253402300799), "--t0": (0, 253402300799), "--step": (1, 3600)}
 
 
-def is_in_range(name: str, text: str) -> bool:
-    """Whether a text is a number that this option of `code` takes."""
-    least, most = RANGES[name]
-    return re.fullmatch("0|[1-9][0-9]*", text) is not None and least <= int(text) <= most
-
-
 def status_of_code(given: dict[str, str]) -> int:
     """The status with which `code` has to end for these options: 2 if a value is bad or one is missing, and 1 before the first step."""
     is_secret = re.fullmatch("(?:[0-9A-Fa-f]{2}){10,64}", given.get("--secret", "")) is not None
     is_hash = given.get("--hash", "sha1") in ("sha1", "sha256", "sha512")
-    are_numbers = all(is_in_range(name, text) for name, text in given.items() if name in RANGES)
+    numbers = [(text, RANGES[name]) for name, text in given.items() if name in RANGES]
+    are_numbers = all(re.fullmatch("0|[1-9][0-9]*", text) and least <= int(text) <= most for text, (least, most) in numbers)
     if not (is_secret and is_hash and are_numbers and ("--counter" in given or "--moment" in given)):
         return 2
     return 0 if "--counter" in given or int(given["--moment"]) >= int(given.get("--t0", 0)) else 1

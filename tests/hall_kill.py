@@ -9,7 +9,7 @@ import random
 
 import clients
 import suite
-from clients import Account, Turn, book, logged_in
+from clients import Account, book, logged_in
 from hall_support import Hall
 from kills import kill_before_any_call
 from processes import whole
@@ -18,11 +18,6 @@ RUNS = 2000
 # How many sessions log in before the first code, and how many different codes are then sent.
 OPEN = 64
 SENT = 12
-
-
-def visits(account: Account) -> list[list[Turn]]:
-    """The turns of 64 logins to one account."""
-    return [logged_in(account, f"client-{number}", f"own-{number}") for number in range(OPEN)]
 
 
 def codes_from(account: Account, at: int) -> str:
@@ -36,7 +31,8 @@ def killed_before_any_call(folder: str) -> None:
     """Halls are killed before any of their calls, and each next one goes on from the book that they leave."""
     account = Account("user", "SCRAM-SHA-1")
     here = Hall(folder, book([account]))
-    events = clients.dealt([which for _ in range(3) for which in range(OPEN)], visits(account))[0]
+    visits = [logged_in(account, f"client-{number}", f"own-{number}") for number in range(OPEN)]
+    events = clients.dealt([which for _ in range(3) for which in range(OPEN)], visits)[0]
     kill_before_any_call(here, lambda at, **how: whole(here.words, events + codes_from(account, at), **how), RUNS, 0)
     here.logs("", 0, clients.FIRST_LINE)
     here.has_only("book")

@@ -18,7 +18,7 @@ from checks import equal, holds
 from clients import Account, book
 from limits import limit
 from processes import ran
-from suite import PROGRAM, TOP, each, mode_of, private, program_on_path, read_book, within
+from suite import PROGRAM, TOP, each, mode_of, program_on_path, read_book, script, within, written
 
 sys.path.insert(0, str(TOP / "hosts"))
 from scramotp_host import hall, journal, plain
@@ -43,7 +43,7 @@ def serves(
     journal.note = lambda event, **fields: notes.extend([fields["answer"]] if event == "audit" else [])
     os.environ["PATH"] = program_on_path(folder)["PATH"]
     within(folder, "logs")
-    private(f"{folder}/book.toml", text)
+    written(f"{folder}/book.toml", text)
 
     async def run() -> None:
         async with Host(f"{folder}/book.toml", f"{folder}/logs", Limits(**limits), alarm) as host:
@@ -331,7 +331,7 @@ def idle_logins_of_one_address(folder: str) -> None:
     async def many(host: Host) -> None:
         for _ in range(4):
             await host.login(HOME)
-        await is_limited(host, HOME)
+        await refused(host.login(HOME), LoginLimited)
         equal(await says(await host.login({"rip": "198.51.100.1"}), USER), "OK", "a login of another address")
 
     serves(folder, many, places=1, idle=0, guesses=3)
@@ -364,12 +364,12 @@ def limited_addresses(folder: str) -> None:
             it.add("another", 0)
         for _ in range(4):
             await logs_in(host, wrong=True)
-        await is_limited(host, HOME)
+        await refused(host.login(HOME), LoginLimited)
         for rip in "198.51.100.1", "2001:db8:0:1::1":
             await says(await host.login({"rip": rip}), USER)
         long = await host.login({"rip": "2001:db8:0:2::1"})
         await long.begin("SCRAM-SHA-256", b"x" * 5000)
-        await is_limited(host, {"rip": "2001:db8:0:2:ffff::2"})
+        await refused(host.login({"rip": "2001:db8:0:2:ffff::2"}), LoginLimited)
 
     serves(folder, some)
     equal(audits(folder), [(7, 2)], "the audit")
@@ -381,20 +381,10 @@ def limited_addresses(folder: str) -> None:
     equal([*map(origin, clients)], ["::/64", "192.0.2.7", "uid 5", "uid 5"], "by what a client is counted")
 
 
-async def is_limited(host: Host, client: dict[str, object]) -> None:
-    try:
-        await host.login(client)
-    except LoginLimited:
-        return
-    holds(False, "a login is heard above the limit", client)
-
-
 def an_alarm(folder: str) -> None:
     """After a log that is not clean, the operator's program is run with the log and the answer; after a clean one it is not. The journal
     has both answers."""
-    alarm = Path(folder, "alarm")
-    alarm.write_text(f'#!/bin/sh\nprintf "%s\\n" "$@" >>{folder}/alarms\n')
-    alarm.chmod(0o755)
+    alarm = script(f"{folder}/alarm", f'printf "%s\\n" "$@" >>{folder}/alarms')
 
     async def two(host: Host) -> None:
         await logs_in(host)
@@ -416,9 +406,7 @@ def an_alarm(folder: str) -> None:
 
 def an_audit_that_is_not_run(folder: str) -> None:
     """If there is no program that could audit a log, the journal and the operator's program are told why."""
-    alarm = Path(folder, "alarm")
-    alarm.write_text(f'#!/bin/sh\necho "$2" >{folder}/alarms\n')
-    alarm.chmod(0o755)
+    alarm = script(f"{folder}/alarm", f'echo "$2" >{folder}/alarms')
 
     async def one(host: Host) -> None:
         await logs_in(host)
@@ -503,7 +491,7 @@ def a_book_that_is_not_copied(folder: str) -> None:
     """A hall whose book can't be copied whole, since the disk is full but for a part of it, does not begin, and leaves no file."""
     os.environ["PATH"] = program_on_path(folder)["PATH"]
     text = book([USER])
-    begun = hall.Hall(str(private(f"{folder}/book.toml", text)), f"{folder}/log")
+    begun = hall.Hall(str(written(f"{folder}/book.toml", text)), f"{folder}/log")
     holds(begun.is_ready(limit(20)), "the hall does not begin")
     limits = resource.getrlimit(resource.RLIMIT_FSIZE)
     resource.setrlimit(resource.RLIMIT_FSIZE, (len(text) - 1, limits[1]))

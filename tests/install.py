@@ -10,7 +10,7 @@ from collections.abc import Iterable
 import suite
 from checks import equal, holds
 from installs import due_files, made
-from suite import KEYS_OF_PENCIL, PROGRAM, TOP, each, within
+from suite import KEYS_OF_PENCIL, PROGRAM, TOP, each, script, within
 
 REFUSED = "The program is not built, or is older than its sources: run make build first."
 # What the Makefile takes from the PATH before it compiles the sources.
@@ -111,8 +111,7 @@ def run_from_sources(folder: str) -> None:
     ]):
         with trial:
             asked.unlink(missing_ok=True)
-            stand_in.write_text(f'#!/bin/sh\necho "$PWD: $*" >{asked}\n{last}\n')
-            stand_in.chmod(0o755)
+            script(stand_in, f'echo "$PWD: $*" >{asked}\n{last}')
             status, output, faults = done = made("run", program, top, path)
             due = f"{os.path.realpath(top)}: tests/unproved.py scramotp out/unproved/scramotp\n"
             equal(asked.read_text(), due, "where Python runs, and its words")

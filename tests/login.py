@@ -252,14 +252,9 @@ def random_nonces(folder: str) -> None:
             log = here.log_of(here.words(*given, *more), "pencil", 0)
             holds(f"S CONT :r={nonce},s=" in log, "the challenge does not have the nonces", nonce, log)
     logs = [here.log_of(here.words("--mechanism", "SCRAM-SHA-1"), "pencil", 0) for _ in range(3)]
-    parts = {part for log in logs for part in parts_of_nonces(log)}
+    form = r"\nC AUTH SCRAM-SHA-1 :n,\S*,r=(\S+)\nS CONT :r=\1([^,]+),"
+    parts = {part for log in logs for part in re.search(form, log).groups()}
     equal(len(parts), 6, "how many parts of the nonces of three runs differ", logs)
-
-
-def parts_of_nonces(log: str) -> tuple[str, str]:
-    """The client's part of the nonce in a log of one login by SCRAM-SHA-1, and the server's."""
-    client = re.search(r"\nC AUTH SCRAM-SHA-1 :n,\S*,r=(\S+)\n", log)[1]
-    return client, re.search(r"\nS CONT :r=([^,]+),", log)[1].removeprefix(client)
 
 
 def values_with_hyphens(folder: str) -> None:

@@ -15,7 +15,7 @@ import processes
 from checks import equal, holds
 from clients import Account
 from processes import Running, ran, until
-from suite import PROGRAM, TOP, private, program_on_path
+from suite import PROGRAM, TOP, program_on_path, written
 
 # The lines with which a door greets a server, without those that differ each time.
 GREETING = ["VERSION\t1\t2", "MECH\tSCRAM-SHA-256\tmutual-auth", "MECH\tSCRAM-SHA-1\tmutual-auth"]
@@ -30,7 +30,7 @@ class Door:
     def __init__(self, folder: str | Path, book: str, *flags: str, **how: object) -> None:
         self.folder = Path(folder)
         self.socket, self.logs, self.journal = (self.folder / name for name in ["auth", "logs", "journal"])
-        private(self.folder / "book.toml", book)
+        written(self.folder / "book.toml", book)
         self.logs.mkdir(exist_ok=True)
         self.start(*flags, **how)
 
@@ -192,12 +192,6 @@ def door_of(folder: str | Path, book: str, accepted: int, *flags: str) -> Iterat
     door.ends(accepted)
 
 
-def is_served(path: Path) -> bool:
-    """Whether somebody listens at a socket."""
-    with socket.socket(socket.AF_UNIX) as client:
-        return client.connect_ex(str(path)) == 0
-
-
 @contextlib.contextmanager
 def dovecot_auth(folder: str | Path, account: Account) -> Iterator[Path]:
     """Dovecot's own auth service, whose file of users has this account's keys for SCRAM-SHA-256. Gives the path of its socket. Needs root
@@ -230,7 +224,8 @@ service auth {{
     (place / "users").chmod(0o644)
     run = subprocess.Popen(["/usr/sbin/dovecot", "-F", "-c", place / "conf"])
     try:
-        until(lambda: is_served(place / "run/client"), "Dovecot's auth service should listen")
+        with socket.socket(socket.AF_UNIX) as client:
+            until(lambda: client.connect_ex(str(place / "run/client")) == 0, "Dovecot's auth service should listen")
         yield place / "run/client"
     finally:
         run.terminate()

@@ -98,11 +98,6 @@ def unpack_exim() -> None:
         PACKAGES.chmod(0o755)
 
 
-def has_user() -> bool:
-    """Whether there is the user that runs what needs few rights."""
-    return USER in (it.pw_name for it in pwd.getpwall())
-
-
 def main() -> int:
     if sys.argv[1:] == ["--install"]:
         install()
@@ -114,7 +109,7 @@ def main() -> int:
         faults.append("rt, the command of the Rattle kit: add its folder to your PATH")
     if sys.version_info < OLDEST_PYTHON:
         faults.append(f"python3 of {'.'.join(map(str, OLDEST_PYTHON))} or newer: apt-get install python3")
-    if not has_user():
+    if USER not in (it.pw_name for it in pwd.getpwall()):
         faults.append(f"a user {USER}: useradd --system {USER}")
     if packages := packages_of([*FOR_PARTS, *LARGE]):
         print("Parts of some tests need: apt-get install", *packages, file=sys.stderr)

@@ -18,7 +18,7 @@ from checks import equal, holds
 from clients import Account, book
 from expected import code
 from processes import Answer, Running, ran, until
-from suite import CODES, TOP, audit_says, each, has, hotp, private, program_on_path
+from suite import CODES, TOP, audit_says, each, has, hotp, program_on_path, written
 
 LOGIN, CODE = TOP / "hosts/check-login", TOOLS / "check-code"
 USER = Account("user", "SCRAM-SHA-256")
@@ -31,7 +31,7 @@ SERVICES = Page("docs/DOORS.md").blocks("PAM", 2, "")
 def hall(folder: str, text: str) -> Iterator[Path]:
     """Runs `serve-hall` over a book with this text, and gives its socket. At the end its log has to be clean."""
     here = Path(folder)
-    words = [TOOLS / "serve-hall", private(here / "book.toml", text), here / "socket", here / "log"]
+    words = [TOOLS / "serve-hall", written(here / "book.toml", text), here / "socket", here / "log"]
     run = Running(words, env=program_on_path(folder))
     until(lambda: (here / "log").exists() and (here / "log").read_text().startswith("SCRAMLOG"), "a hall should begin")
     yield here / "socket"

@@ -27,7 +27,7 @@ from clients import Account
 from expected import MECHS
 from limits import limit
 from processes import LIMIT, LIMIT_OF_LINES, Running, until
-from suite import BOOK_OF_USER, each, mode_of, seen, within
+from suite import BOOK_OF_USER, each, mode_of, script, seen, within, written
 
 # An account with a token, and one without.
 USER, BARE = Account("user", "SCRAM-SHA-256"), Account("bare", "SCRAM-SHA-256")
@@ -281,9 +281,7 @@ def a_slow_client(folder: str) -> None:
     whole lines is served before and after that."""
     text = (TOOLS / "serve-hall").read_text(encoding="utf-8")
     equal(text.count("\nPATIENCE = 60 "), 1, "the seconds that it waits")
-    quick = Path(folder, "quick")
-    quick.write_text(text.replace("\nPATIENCE = 60 ", f"\nPATIENCE = {PATIENCE} "), encoding="utf-8")
-    quick.chmod(0o755)
+    written(Path(folder, "quick"), text.replace("\nPATIENCE = 60 ", f"\nPATIENCE = {PATIENCE} "), 0o755)
     serving = serving_hall(folder, clients.book([BARE], have_tokens=False), "./quick")
     busy = greeted(folder)
     logs_in(busy, BARE)
@@ -472,9 +470,7 @@ def a_stop_before_the_hall_begins(folder: str) -> None:
     """If a signal comes before the hall has begun, as while that waits for the book, the tool says so, ends the hall, and leaves nothing.
     Here a stand-in for the program begins no log."""
     with_tools(folder, BOOK_OF_USER)
-    waiting = within(folder, "waiting") / "scramotp"
-    waiting.write_text("#!/bin/sh\ncat\necho the hall goes on >&2\n")
-    waiting.chmod(0o755)
+    script(within(folder, "waiting") / "scramotp", "cat\necho the hall goes on >&2")
     for trial, number in each([signal.SIGINT, signal.SIGTERM]):
         with trial:
             serving = start(folder, START.replace("exec tools/", 'exec env PATH="$PWD/waiting:$PATH" tools/'))

@@ -178,12 +178,17 @@ def within(folder: str | pathlib.Path, name: object) -> pathlib.Path:
     return made
 
 
-def private(path: str | pathlib.Path, text: str) -> pathlib.Path:
-    """Writes a file that only its owner can read."""
+def written(path: str | pathlib.Path, text: str, mode: int = 0o600) -> pathlib.Path:
+    """Writes a file, which only its owner can read unless it is given another mode."""
     path = pathlib.Path(path)
     path.write_text(text)
-    path.chmod(0o600)
+    path.chmod(mode)
     return path
+
+
+def script(path: str | pathlib.Path, text: str) -> pathlib.Path:
+    """Writes a script of sh that anyone can run."""
+    return written(path, f"#!/bin/sh\n{text}\n", 0o755)
 
 
 def mode_of(path: str | pathlib.Path) -> int:

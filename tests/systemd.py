@@ -39,12 +39,6 @@ def can_boot(what: str) -> bool:
     return not answer.status
 
 
-def with_book(machine: Machine) -> None:
-    """Makes the user and the book that the unit serves."""
-    machine.does("useradd --system --user-group scramotp; install -d -m 0700 -o scramotp -g scramotp /var/lib/scramotp")
-    machine.does("install -o scramotp -g scramotp -m 600 /dev/stdin /var/lib/scramotp/book.toml", book([USER]))
-
-
 def logs_in(machine: Machine) -> str:
     """The last line of a login at the unit's socket; nothing if the service goes away."""
     with Server(machine.path("/run/scramotp/auth")) as server:
@@ -58,7 +52,8 @@ def a_unit_at_work(folder: str) -> None:
     if not can_boot("the units by a systemd that runs"):
         return
     with booted(folder) as machine:
-        with_book(machine)
+        machine.does("useradd --system --user-group scramotp; install -d -m 0700 -o scramotp -g scramotp /var/lib/scramotp")
+        machine.does("install -o scramotp -g scramotp -m 600 /dev/stdin /var/lib/scramotp/book.toml", book([USER]))
         machine.does(f"systemctl enable --now {NAME}.socket {NAME}.service")
         equal(machine.does("stat -c '%a %U %G' /run/scramotp /run/scramotp/auth"), "755 root root\n660 root mail\n", "the rights")
         equal(logs_in(machine), "OK\t1\tuser=user", "a login")

@@ -17,7 +17,7 @@ from blocks import (
 )
 from checks import equal, holds
 from processes import until
-from suite import BOOK_OF_USER, CODES, each, hotp, within
+from suite import BOOK_OF_USER, CODES, each, hotp, script, within
 
 
 def a_password_of_any_name(folder: str) -> None:
@@ -136,9 +136,7 @@ def a_code_in_a_script(folder: str) -> None:
     judges(CODES[4], 1, "for an account without a token", "bare", fault="no token")
     judges(CODES[4], 1, "for a name without an account", "nobody", fault="no such account")
     judges(CODES[4], 1, "if there is no book", book="none", fault="cannot read none")
-    silent = within(folder, "silent") / "scramotp"
-    silent.write_text("#!/bin/sh\n")
-    silent.chmod(0o755)
+    script(within(folder, "silent") / "scramotp", "")
     found = ran(folder, 'PATH="$PWD/silent:$PATH" tools/check-code book.toml user', CODES[4])
     equal(found, (1, "", ""), "the answer if the program prints nothing")
 
