@@ -314,11 +314,4 @@ def shown_texts(folder: str) -> None:
             holds("\nscramotp" not in faults, "the word starts a line", words, faults)
 
 
-def input_limit(folder: str) -> None:
-    """All lines together may have 16777216 bytes. The replies to the lines before the limit are printed."""
-    here = BookFolder(folder, BOOK)
-    here.verifies("x\n" + "a" * (MOST_BYTES - 2), 1, "FAIL 5\nFAIL 5\n")
-    here.verifies("x\n" + "a" * (MOST_BYTES - 1), 3, "FAIL 5\n", "cannot read input")
-
-
 suite.run_all()

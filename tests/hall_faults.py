@@ -11,7 +11,7 @@ from checks import equal, holds
 from clients import Account, book, dealt, gone, logged_in, opened, said
 from hall_support import HOTP_BOOK, Hall, clean, login
 from processes import Running, ran, whole
-from suite import MOST_BYTES, each, fault_text, verify_words
+from suite import each, fault_text, verify_words
 
 # Input lines that state no event when sessions 2 and 3 are open, session 1 has ended and no other has begun.
 NO_EVENTS = [
@@ -80,15 +80,6 @@ def failed_saves(folder: str) -> None:
             here.audited(log + halted, clean(3, 2))
 
 
-def first_saves(folder: str) -> None:
-    """The book is saved before the first line. If that fails, nothing is printed, and no input is judged."""
-    here = Hall(folder)
-    here.next_text.mkdir()
-    for trial, text in each(["", "no event\n", let_in()[0]]):
-        with trial:
-            here.refuses(text, 3, f"cannot write {here.book}")
-
-
 def books_that_are_none(folder: str) -> None:
     """The book is read before any input is judged."""
     here = Hall(folder)
@@ -140,17 +131,6 @@ def inputs_that_fail(folder: str) -> None:
     with input_of_hall:
         equal(ran(here.words, stdin=input_of_hall), (3, log, fault_text("cannot read input")), "a hall whose input fails")
     here.token_has(next=1)
-
-
-def long_inputs(folder: str) -> None:
-    """More than 16777216 bytes of input are a fault. The log up to there has been printed."""
-    here = Hall(folder)
-    text, log = let_in()
-    text += "line 2 5 "
-    here.logs(text + "a" * (MOST_BYTES + 1 - len(text)), 3, log, "cannot read input")
-    here.token_has(next=1)
-    here.put(HOTP_BOOK)
-    here.logs(text + "a" * (MOST_BYTES - len(text)), 0, log + "2 C BAD\n2 S NO :\n2 E\n")
 
 
 suite.run_all()

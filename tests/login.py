@@ -13,7 +13,7 @@ from checks import equal, holds
 from expected import ACCEPTED, AUDITS, GONE, KEYS_TOML, SHA256_NONCES, base64_of, decoy_salt
 from hall_support import clean
 from processes import Running, ran
-from suite import MOST_BYTES, PROGRAM, PUBLISHED as SHA1, each, hotp, login_words, read_book
+from suite import PROGRAM, PUBLISHED as SHA1, each, hotp, login_words, read_book
 
 
 class Login(suite.BookFolder):
@@ -204,30 +204,6 @@ def another_at_the_path(folder: str) -> None:
     equal(here.socket.read_text(), "another", "the file at the socket's path")
 
 
-def failed_saves(folder: str) -> None:
-    """A save that fails halts the desk: the log says so and is clean, and the book is as before."""
-    here = Login(folder, with_codes(sync_ahead=8))
-    for trial, (line, sent) in each([
-        ("755224", "C CODE 755224\n"),
-        ("000000", "C CODE 000000\n"),
-        ("SYNC 755224 287082", "C SYNC 755224 287082\n"),
-    ]):
-        with trial:
-            here.put(with_codes(sync_ahead=8))
-            running = here.starts("--moment", "5")
-            book = here.book.read_bytes()
-            here.next_text.mkdir()
-            answer = running.end(f"{line}\n755224\n")
-            here.next_text.rmdir()
-            equal(answer, (3, f"{sent}S HALT\n", f"scramotp: cannot write {here.book}\n"), "the end of the login")
-            equal(here.book.read_bytes(), book, "the book after", line)
-            here.has_no_socket()
-            here.audited(f"{ACCEPTED}{sent}S HALT\n", clean(1, 1, 0))
-    here.put(with_codes())
-    here.next_text.mkdir()
-    here.refuses(here.words(*SHA1), "pencil\n755224\n", 3, f"cannot write {here.book}")
-
-
 def random_nonces(folder: str) -> None:
     """The client's nonce and then the server's part are each the base64 text of the next 18 bytes of the random file."""
     here, file = Login(folder), pathlib.Path(folder, "random")
@@ -367,20 +343,6 @@ def sockets_in_the_way(folder: str) -> None:
             else:
                 here.refuses(here.words(*SHA1, path=path), "pencil\n", 3, "socket fault")
             holds(not os.path.lexists(path), "the socket is left", path)
-
-
-def long_inputs(folder: str) -> None:
-    """More than 16777216 bytes of input are a fault. The log up to there has been printed."""
-    here = Login(folder, with_codes(limit=100))
-    words = here.words(*SHA1, "--moment", "5")
-    here.refuses(words, b"a" * (MOST_BYTES + 1), 3, "cannot read input")
-    text = b"pencil\n755224\n"
-    log = ACCEPTED + "C CODE 755224\nS PASS 5 0\n"
-    here.logs(words, text + b"a" * (MOST_BYTES + 1 - len(text)), 3, log, "cannot read input")
-    here.audited(log, "line 9: cut")
-    here.put(with_codes(limit=100))
-    log = ACCEPTED + "C CODE 755224\nS PASS 5 0\nC BAD\nS NO :\nE\n"
-    here.logs(words, text + b"a" * (MOST_BYTES - len(text)), 1, log)
 
 
 suite.run_all()

@@ -22,10 +22,10 @@ import suite
 from checks import equal, holds
 from clients import Account, dealt, escaped, gone, logged_in, opened, said
 from command_table import BOOK, command_of, commands, left, login_log, prepare
-from expected import AUDITS, SESSION_LEFT, base64_of
+from expected import AUDITS, GONE, SESSION_LEFT, base64_of
 from hall_support import Hall, clean
 from processes import LIMIT, LIMIT_OF_LINES, Answer, Running, ran, sleeps
-from suite import MOST_BYTES, PROGRAM, BookFolder, each, login_words
+from suite import CODES, MOST_BYTES, PROGRAM, BookFolder, each, login_words, token
 
 # A hall's log of RFC 5802's login, without its end, and the events that lead to it.
 HALL = command_of("hall", 0)
@@ -148,12 +148,29 @@ def lengths_of_files(folder: str) -> None:
             read, unread = (0, command.printed, ""), (3, "", f"scramotp: cannot read {folder}/book\n")
             equal(ran(command.in_folder(folder), command.text), read if size == MOST_BYTES else unread, name, size)
     bad, unread = (2, "", "scramotp: bad password\n"), (3, "", "scramotp: cannot read input\n")
-    for trial, (name, (size, want)) in each(itertools.product(["enrol", "keys"], [(MOST_BYTES, bad), (MOST_BYTES + 1, unread)])):
+    for trial, (name, (size, want)) in each(itertools.product(["enrol", "keys", "login"], [(MOST_BYTES, bad), (MOST_BYTES + 1, unread)])):
         with trial:
             command = command_of(name)
             prepare(folder, command)
             equal(ran(command.in_folder(folder), b"a" * size), want, f"a password of {size} bytes")
             equal(pathlib.Path(folder, "book").read_text(), BOOK, f"the book after a password of {size} bytes")
+
+
+def lengths_of_inputs(folder: str) -> None:
+    """All lines together may have 16777216 bytes. One byte more is a fault, and what the lines before that one lead to is printed and
+    saved."""
+    hall = command_of("hall", 1)
+    for trial, (name, begin, printed, status, more) in each([
+        ("verify", f"{CODES[0]}\n", "PASS 5 0\n", 1, "FAIL 5\n"),
+        ("login", f"pencil\n{CODES[0]}\n", login_log(1).removesuffix(GONE), 1, "C BAD\nS NO :\nE\n"),
+        ("hall", hall.text.replace("gone 1 5\n", "line 1 5 "), hall.printed.removesuffix("1 C GONE\n1 E\n"), 0, "1 C BAD\n1 S NO :\n1 E\n"),
+    ]):
+        with trial:
+            command = command_of(name)
+            for size, want in [(MOST_BYTES, (status, printed + more, "")), (MOST_BYTES + 1, (3, printed, "scramotp: cannot read input\n"))]:
+                prepare(folder, command)
+                equal(ran(command.in_folder(folder), begin.ljust(size, "a")), want, name, size)
+                equal(token(pathlib.Path(folder, "book"))["next"], 1, "the next counter", name, size)
 
 
 class Fed(Running):
