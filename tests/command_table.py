@@ -5,7 +5,6 @@ import os
 import pathlib
 import re
 import shutil
-import stat
 import tomllib
 from typing import Any, NamedTuple
 
@@ -133,17 +132,16 @@ def new_book() -> Command:
     return command_of("enrol")._replace(books=[None, with_account(None)])
 
 
-def prepare(folder: str | pathlib.Path, command: Command, mode: int = 0o600) -> None:
+def prepare(folder: str | pathlib.Path, command: Command) -> None:
     """Empties a folder of an earlier run's files, and makes there the log, the random file and, unless the command makes it, the book."""
     here = pathlib.Path(folder)
-    for name in os.listdir(folder):
-        if (here / name).is_dir():
-            shutil.rmtree(here / name)
+    for path in here.iterdir():
+        if path.is_dir():
+            shutil.rmtree(path)
         else:
-            (here / name).unlink()
+            path.unlink()
     if command.books[0] is not None:
-        (here / "book").write_text(BOOK)
-        (here / "book").chmod(mode)
+        suite.written(here / "book", BOOK)
     (here / "log").write_text(LOG)
     (here / "random").write_bytes(RANDOM)
 
@@ -169,21 +167,13 @@ def book_of(folder: str | pathlib.Path) -> dict[str, Any] | str | None:
         return path.read_text()
 
 
-def is_untouched(folder: str | pathlib.Path, command: Command, mode: int = 0o600) -> bool:
-    """Whether the book's bytes and mode are as they were, or there still is no book."""
-    path = pathlib.Path(folder, "book")
-    if command.books[0] is None:
-        return not os.path.lexists(path)
-    return path.read_text() == BOOK and stat.S_IMODE(path.stat().st_mode) == mode
-
-
 def is_kept(folder: str | pathlib.Path, command: Command, printed: str) -> bool:
-    """Whether the book is whole, has each change that was reported and at most one more, and only its owner can read it."""
-    saved = command.saves_told(printed)
-    path = pathlib.Path(folder, "book")
-    if path.exists() and stat.S_IMODE(path.stat().st_mode) != 0o600:
+    """Whether the book is whole, has each change that was reported and at most one more, and only its owner can read it. A command that
+    saves nothing has to leave its bytes as they were."""
+    saved, path = command.saves_told(printed), pathlib.Path(folder, "book")
+    if path.exists() and suite.mode_of(path) != 0o600:
         return False
-    return book_of(folder) in command.books[saved:saved + 2] and (len(command.books) > 1 or is_untouched(folder, command))
+    return book_of(folder) in command.books[saved:saved + 2] and (len(command.books) > 1 or path.read_text() == BOOK)
 
 
 def is_done(folder: str | pathlib.Path, command: Command) -> bool:

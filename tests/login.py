@@ -52,9 +52,9 @@ class Login(suite.BookFolder):
         equal(self.seen(), seen, f"the book and its folder after {words}")
 
 
-def with_codes(look_ahead: int = 3, limit: int = 3, sync_ahead: int | None = None) -> str:
+def with_codes(limit: int = 3, sync_ahead: int | None = None) -> str:
     """The book of RFC 5802's user, with RFC 4226's token."""
-    return KEYS_TOML + hotp(look_ahead, limit, sync_ahead)
+    return KEYS_TOML + hotp(3, limit, sync_ahead)
 
 
 def published_logins(folder: str) -> None:

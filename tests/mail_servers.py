@@ -27,21 +27,21 @@ SECONDS = 20
 class Door:
     """A door that serves in a folder: its book, its socket, its folder of logs, and its journal."""
 
-    def __init__(self, folder: str | Path, book: str, *flags: str, **how: object) -> None:
+    def __init__(self, folder: str | Path, book: str, *flags: str) -> None:
         self.folder = Path(folder)
         self.socket, self.logs, self.journal = (self.folder / name for name in ["auth", "logs", "journal"])
         written(self.folder / "book.toml", book)
         self.logs.mkdir(exist_ok=True)
-        self.start(*flags, **how)
+        self.start(*flags)
 
-    def start(self, *flags: str, **how: object) -> None:
+    def start(self, *flags: str) -> None:
         """Starts the program, whose journal goes on in the same file, and waits until it serves or has ended."""
         words = [TOP / "hosts" / "serve-dovecot-auth", self.folder / "book.toml", self.socket, self.logs, "--delay", "0.05", *flags]
         before = len(self.notes("ready"))
         # The journal goes through a pipe, so that a limit of the size of files is not one of the journal.
         with open(self.journal, "ab") as journal:
             self.sink = subprocess.Popen(["cat"], stdin=subprocess.PIPE, stdout=journal)
-        self.run = Running(words, stderr=self.sink.stdin, env=program_on_path(self.folder), **how)
+        self.run = Running(words, stderr=self.sink.stdin, env=program_on_path(self.folder))
         self.sink.stdin.close()
         is_ready = lambda: self.run.process.poll() is not None or len(self.notes("ready")) > before
         until(is_ready, "a door should be ready")

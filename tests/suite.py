@@ -230,9 +230,9 @@ def enrols(book: str | pathlib.Path, name: str, password: str = "pencil", *more:
     prints([PROGRAM, "enrol", "--book", book, f"--name={name}", *more], password, 0, f"enrolled {name}\n")
 
 
-def verify_words(book: str | pathlib.Path, moment: str = "5", name: str = "user") -> list:
+def verify_words(book: str | pathlib.Path, moment: str = "5") -> list:
     """The words of `verify` for a book."""
-    return [PROGRAM, "verify", "--book", book, "--name", name, "--moment", moment]
+    return [PROGRAM, "verify", "--book", book, "--name", "user", "--moment", moment]
 
 
 def login_words(book: str | pathlib.Path, socket: str | pathlib.Path, *more: str | pathlib.Path, name: str = "user") -> list:
