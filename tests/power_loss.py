@@ -8,7 +8,7 @@ then, and at most one more. The program goes on from there, saves what is due, a
 import os
 import pathlib
 import re
-from collections.abc import Iterable
+from collections.abc import Callable, Iterable
 from typing import Any, NamedTuple
 
 import shims
@@ -123,20 +123,27 @@ def is_shown(command: Command, losses: list[Loss]) -> None:
     holds(len(losses) > 20 * (len(command.books) - 1), command.name, "too few states", len(losses))
 
 
-def codes_are_sent_again(here: Losses, command: Command) -> None:
-    """Whatever a loss leaves of a run, its codes are sent to `verify` again: those that were reported as passed fail, and the others pass
-    unless their save has been kept."""
-    losses, again = here.of(command), command_of("verify")
+def after_each_loss(here: Losses, command: Command, check: Callable[[int], None], book: str = BOOK) -> None:
+    """Makes a check after each loss of a run with this book. It is given the number of the save that is left."""
+    losses = here.of(command, book)
     for trial, loss in each(losses):
         with trial:
             here.put(loss)
-            place = place_of(here, command, loss)
-            after = command.books[place]["accounts"]["user"]["token"]["next"]
-            replies = "".join(f"PASS 5 {at}\n" if at >= after else "FAIL 5\n" for at in range(2))
-            # A code that passes clears the failures.
-            book = with_token(command.books[place], next=2, failures=2 if after == 2 else 0)
-            goes_on(here, again, book, 1 if after else 0, replies)
+            check(place_of(here, command, loss))
     is_shown(command, losses)
+
+
+def codes_are_sent_again(here: Losses, command: Command) -> None:
+    """Whatever a loss leaves of a run, its codes are sent to `verify` again: those that were reported as passed fail, and the others pass
+    unless their save has been kept."""
+    def check(place: int) -> None:
+        after = command.books[place]["accounts"]["user"]["token"]["next"]
+        replies = "".join(f"PASS 5 {at}\n" if at >= after else "FAIL 5\n" for at in range(2))
+        # A code that passes clears the failures.
+        book = with_token(command.books[place], next=2, failures=2 if after == 2 else 0)
+        goes_on(here, command_of("verify"), book, 1 if after else 0, replies)
+
+    after_each_loss(here, command, check)
 
 
 class Steps(NamedTuple):
@@ -212,13 +219,8 @@ def failed_codes(folder: str) -> None:
     books = [with_token(book, failures=2 + at) for at in range(3)]
     command = command_of("verify")._replace(text="000000\n" * 2, printed="FAIL 5\n" * 2, books=books)
     again = command._replace(text="000000\n")
-    losses = here.of(command, LIMIT_100)
-    for trial, loss in each(losses):
-        with trial:
-            here.put(loss)
-            place = place_of(here, command, loss)
-            goes_on(here, again, with_token(book, failures=3 + place), 1, "FAIL 5\n")
-    is_shown(command, losses)
+    check = lambda place: goes_on(here, again, with_token(book, failures=3 + place), 1, "FAIL 5\n")
+    after_each_loss(here, command, check, LIMIT_100)
 
 
 def two_losses(folder: str) -> None:
@@ -248,13 +250,8 @@ def enrol(folder: str) -> None:
     here = Losses(folder)
     for trial, command in each([command_of("enrol"), new_book()]):
         with trial:
-            losses = here.of(command)
-            for inner, loss in each(losses):
-                with inner:
-                    here.put(loss)
-                    answer = (1, "", "name is taken") if place_of(here, command, loss) else (0, command.printed)
-                    goes_on(here, command, command.books[-1], *answer)
-            is_shown(command, losses)
+            answers = (0, command.printed), (1, "", "name is taken")
+            after_each_loss(here, command, lambda place: goes_on(here, command, command.books[-1], *answers[place]))
 
 
 def unlock(folder: str) -> None:
@@ -262,15 +259,8 @@ def unlock(folder: str) -> None:
     here, book = Losses(folder), parsed_book(LOCKED)
     command = command_of("unlock")._replace(books=[book, with_token(book, failures=0)])
     again = command_of("verify")._replace(text=f"000000\n{CODES[0]}\n")
-    losses = here.of(command, LOCKED)
-    for trial, loss in each(losses):
-        with trial:
-            here.put(loss)
-            if place_of(here, command, loss):
-                goes_on(here, again, with_token(book, next=1, failures=0), 1, "FAIL 5\nPASS 5 0\n")
-            else:
-                goes_on(here, again, book, 1, "LOCKED 5\nLOCKED 5\n")
-    is_shown(command, losses)
+    due = (book, 1, "LOCKED 5\nLOCKED 5\n"), (with_token(book, next=1, failures=0), 1, "FAIL 5\nPASS 5 0\n")
+    after_each_loss(here, command, lambda place: goes_on(here, again, *due[place]), LOCKED)
 
 
 suite.run_all()
