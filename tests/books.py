@@ -31,9 +31,9 @@ PASSES = (0, "PASS 5 0\n", "")
 NONE = 0xFFFFFFFF
 
 
-def start_enrol(path: str | pathlib.Path, name: str, count: int) -> Running:
+def start_enrol(path: str | pathlib.Path, name: str, count: int, **how: Any) -> Running:
     """Starts a run that adds an account, to a new book if there is none."""
-    return whole([PROGRAM, "enrol", "--book", path, "--name", name, "--count", str(count)], "pencil\n")
+    return whole([PROGRAM, "enrol", "--book", path, "--name", name, "--count", str(count)], "pencil\n", **how)
 
 
 def locked(path: str | pathlib.Path) -> int:
@@ -85,12 +85,7 @@ def modes(folder: str) -> None:
     for trial, mask in each([0o000, 0o022, 0o077]):
         with trial:
             here.book.unlink(missing_ok=True)
-            old = os.umask(mask)
-            try:
-                enrolling = start_enrol(here.book, "user", 1)
-            finally:
-                os.umask(old)
-            enrolling.ends(0, "enrolled user\n")
+            start_enrol(here.book, "user", 1, umask=mask).ends(0, "enrolled user\n")
             equal(oct(mode_of(here.book)), "0o600", f"the mode of a new book, with umask {mask:03o}")
     for trial, (before, after) in each([(0o640, "0o600"), (0o604, "0o600"), (0o600, "0o600"), (0o444, "0o400")]):
         with trial:

@@ -24,7 +24,7 @@ from threading import Barrier
 import suite
 from blocks import Page, filled
 from checks import equal, holds
-from clients import Account, book
+from clients import USER, Account, book
 from limits import limit
 from mail_servers import Door, Server, door_of, dovecot_auth, free_port, listens, postfix
 from needs import EXIM, OF_EXIM
@@ -302,7 +302,6 @@ def differences_from_dovecot(folder: str) -> None:
     reason."""
     if not has("Dovecot's auth service", "dovecot", root=True):
         return
-    user = Account("user", "SCRAM-SHA-256")
     hello, settings = [f"VERSION\t1\t0\nCPID\t{os.getpid()}"], "service=imap\tno-penalty"
     auth, refused = f"AUTH\t1\tSCRAM-SHA-256\t{settings}", "FAIL user=user"
 
@@ -310,7 +309,7 @@ def differences_from_dovecot(folder: str) -> None:
         return [*hello, f"AUTH\t1\t{mechanism}\t{settings}{more}\tresp={b64encode(message).decode()}"]
 
     os.chmod(folder, 0o711)
-    with Door(folder, book([user]), "--plain").served() as door, dovecot_auth(within(folder, "dovecot"), user) as other:
+    with Door(folder, book([USER]), "--plain").served() as door, dovecot_auth(within(folder, "dovecot"), USER) as other:
         for what, lines, ours, theirs in [
             ("a login without a first message", [*hello, auth], "CONT", "CONT"),
             ("an empty first message", [*hello, f"{auth}\tresp="], "CONT", "CONT"),
@@ -363,11 +362,11 @@ def whole_logins_as_dovecot(folder: str) -> None:
     """Whole logins at the door and at Dovecot's own auth service, which both say the same at each step, up to the end."""
     if not has("whole logins at Dovecot's auth service", "dovecot", root=True):
         return
-    user, right, wrong = Account("user", "SCRAM-SHA-256"), b"password of user", b"x"
-    first, ask_both = user.first.encode(), ["CONT Username:", "CONT Password:"]
+    right, wrong = b"password of user", b"x"
+    first, ask_both = USER.first.encode(), ["CONT Username:", "CONT Password:"]
     accepted, refused = ["OK user=user"], ["FAIL user=user"]
     os.chmod(folder, 0o711)
-    with Door(folder, book([user]), "--plain").served() as door, dovecot_auth(within(folder, "dovecot"), user) as other:
+    with Door(folder, book([USER]), "--plain").served() as door, dovecot_auth(within(folder, "dovecot"), USER) as other:
         for mechanism, settings, message, responses, due in [
             ("SCRAM-SHA-256", "", first, [b"", b""], ["CONT ", "CONT v=SIGNED", *accepted]),
             ("SCRAM-SHA-256", "", None, [first, b"", b""], ["CONT ", "CONT ", "CONT v=SIGNED", *accepted]),
@@ -381,7 +380,7 @@ def whole_logins_as_dovecot(folder: str) -> None:
             ("LOGIN", "", b"user", [right], [*ask_both[1:], *accepted]),
         ]:
             for path in door.socket, other:
-                equal(dialogue(path, user, mechanism, settings, message, responses), due, "what is said by", path, mechanism, responses)
+                equal(dialogue(path, USER, mechanism, settings, message, responses), due, "what is said by", path, mechanism, responses)
 
 
 OF_SMTP = [(by_msmtp, SCRAMS + BY_PASSWORD), (by_gsasl, SCRAMS + ["PLAIN"]), (by_curl, BY_PASSWORD), (by_swaks, BY_PASSWORD)]
@@ -427,8 +426,7 @@ def many_at_postfix(folder: str) -> None:
     if not has("many logins at Postfix", "postfix", "openssl", root=True):
         return
     os.chmod(folder, 0o711)
-    user = Account("user", "SCRAM-SHA-256")
-    door = Door(folder, book([user]), "--mode", "666", "--idle", "30", "--grace", "30")
+    door = Door(folder, book([USER]), "--mode", "666", "--idle", "30", "--grace", "30")
     settings, together, number = postfix_settings(folder) + "default_process_limit = 150\n", Barrier(100), itertools.count(1)
 
     def challenged() -> None:
@@ -436,7 +434,7 @@ def many_at_postfix(folder: str) -> None:
             door.renews()
 
     with postfix(folder, settings) as port, ThreadPoolExecutor(100) as pool:
-        logins = [pool.submit(logs_in, port, user, together, challenged) for _ in range(200)]
+        logins = [pool.submit(logs_in, port, USER, together, challenged) for _ in range(200)]
         equal([it.result() for it in logins], [235] * 200, "the answers")
     door.ends(200)
     equal((door.outcomes(), len(door.audits())), (["accepted"] * 200, 3), "the outcomes, and the number of logs")

@@ -19,14 +19,13 @@ from threading import Event
 import suite
 from blocks import Page, shows
 from checks import equal, holds
-from clients import Account, book
+from clients import USER, Account, book
 from expected import proved
 from limits import limit
 from mail_servers import GREETING, SETTINGS, Door, Server, door_of
 from processes import Running, ran, until
 from suite import PROGRAM, TOP, each, has, mode_of, program_on_path, within, written
 
-USER = Account("user", "SCRAM-SHA-256")
 OLD = Account("old=user, odd", "SCRAM-SHA-1")
 BOOK = book([USER, OLD])
 OK = "OK\t{}\tuser=user"

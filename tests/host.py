@@ -12,10 +12,11 @@ import subprocess
 import sys
 from collections.abc import Awaitable, Callable
 from pathlib import Path
+from unittest import mock
 
 import suite
 from checks import equal, holds
-from clients import Account, book
+from clients import USER, Account, book
 from limits import limit
 from processes import ran
 from suite import PROGRAM, TOP, each, mode_of, program_on_path, read_book, script, within, written
@@ -29,7 +30,6 @@ from scramotp_host.limits import Limits, PerMinute, origin
 from scramotp_host.login import Login, LoginLimited, LoginLost, Names, names_in
 from scramotp_host.sockets import listening
 
-USER = Account("user", "SCRAM-SHA-256")
 HOME = {"rip": "192.0.2.7", "service": "smtp"}
 MOMENT = r"\d{4}-\d\d-\d\dT\d\d:\d\d:\d\dZ"
 
@@ -105,9 +105,8 @@ def logins_over_changes(folder: str) -> None:
             host.renew()
             equal({*await found}, {"OK"}, "the answers")
 
-    most, hall.MOST_LINES = hall.MOST_LINES, 500
-    serves(folder, all_of)
-    hall.MOST_LINES = most
+    with mock.patch.object(hall, "MOST_LINES", 500):
+        serves(folder, all_of)
     found = audits(folder)
     equal(sum(accepted for _, accepted in found), 800, "the accepted logins in all logs", found)
     # A login has 7 lines. When the limit is seen to be reached, up to two more lines of each of 64 have come at once, and 64 can be open.
@@ -120,9 +119,8 @@ def logs_of_few_bytes(folder: str) -> None:
         for _ in range(20):
             equal(await logs_in(host), "OK", "the answer")
 
-    most, hall.MOST_BYTES = hall.MOST_BYTES, 1000
-    serves(folder, some)
-    hall.MOST_BYTES = most
+    with mock.patch.object(hall, "MOST_BYTES", 1000):
+        serves(folder, some)
     found = audits(folder)
     # The events of a login have 200 to 300 bytes, and the log changes after the login in which the limit is reached.
     holds(4 <= len(found) <= 7 and sum(accepted for _, accepted in found) == 20, "another number of logs", found)
@@ -412,9 +410,8 @@ def an_audit_that_is_not_run(folder: str) -> None:
         await logs_in(host)
         os.environ["PATH"] = folder
 
-    path = os.environ["PATH"]
-    notes = serves(folder, one, alarm=str(alarm))
-    os.environ["PATH"] = path
+    with mock.patch.dict(os.environ):
+        notes = serves(folder, one, alarm=str(alarm))
     due = "[Errno 2] No such file or directory: 'scramotp'"
     equal((notes, Path(folder, "alarms").read_text()), ([due], f"{due}\n"), "what is told")
     equal([*Path(folder, "logs").glob("*.audited")], [], "the logs that count as audited")

@@ -15,13 +15,12 @@ from pathlib import Path
 import suite
 from blocks import TOOLS, Page
 from checks import equal, holds
-from clients import Account, book
+from clients import USER, Account, book
 from expected import code
 from processes import Answer, Running, ran, until
 from suite import CODES, TOP, audit_says, each, has, hotp, program_on_path, written
 
 LOGIN, CODE = TOP / "hosts/check-login", TOOLS / "check-code"
-USER = Account("user", "SCRAM-SHA-256")
 PASSWORD = f"password of {USER.name}"
 WRAPPER = "/usr/lib/x86_64-linux-gnu/libpam_wrapper.so"
 SERVICES = Page("docs/DOORS.md").blocks("PAM", 2, "")

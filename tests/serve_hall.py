@@ -23,14 +23,14 @@ import clients
 import suite
 from blocks import TOOLS, Page, book_of, code_of_now, does, ran, start, token_of_now, with_tools
 from checks import equal, holds
-from clients import Account
+from clients import USER, Account
 from expected import MECHS
 from limits import limit
 from processes import LIMIT, LIMIT_OF_LINES, Running, until
 from suite import BOOK_OF_USER, each, mode_of, script, seen, within, written
 
-# An account with a token, and one without.
-USER, BARE = Account("user", "SCRAM-SHA-256"), Account("bare", "SCRAM-SHA-256")
+# An account whose token books lack.
+BARE = Account("bare", "SCRAM-SHA-256")
 # What `line_of` returns for a client that waits in vain.
 NOTHING = "nothing in time"
 # The seconds in which a client has to send a whole line, in a copy of the tool.

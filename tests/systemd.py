@@ -15,14 +15,13 @@ import suite
 from blocks import Page
 from booted import Machine, booted
 from checks import equal, holds
-from clients import Account, book
+from clients import USER, book
 from expected import code
 from mail_servers import Server
 from needs import PACKAGES
 from processes import ran, until
 from suite import has
 
-USER = Account("user", "SCRAM-SHA-256")
 NAME = "scramotp-dovecot-auth"
 PAGE = Page("docs/DOORS.md")
 # How the program is started that a machine needs.
