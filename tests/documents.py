@@ -22,8 +22,9 @@ from edit_sources import TOP, Unusable, edits_of, planted_rows, read_edit, read_
 
 PAGES = [TOP / "README.md", TOP / "CONTRIBUTING.md", TOP / "CHANGELOG.md", *sorted(TOP.glob("docs/*.md")), TOP / "bench" / "README.md"]
 PAGES += sorted(TOP.glob("plugins/*/README.md"))
-PROMISES = ["PROMISES.md"]
-MAINTAINERS = ["ARCHITECTURE.md", "DECISIONS.md", "EMBEDDING.md", "FORMATS.md", "PROVING.md", "TESTING.md", "SECURITY.md"]
+PROMISES = [TOP / "docs" / "PROMISES.md"]
+OF_MAINTAINERS = ["ARCHITECTURE.md", "DECISIONS.md", "EMBEDDING.md", "FORMATS.md", "PROVING.md", "TESTING.md", "SECURITY.md"]
+MAINTAINERS = [TOP / "docs" / name for name in OF_MAINTAINERS]
 # The files besides pages whose lines may have no more columns than theirs.
 HOSTS = [file for file in sorted([*TOP.glob("hosts/*"), *TOP.glob("hosts/*/*.py")]) if file.is_file()]
 NARROWED = ["tests/*.py", "tests/*.c", "bench/*.py", "bench/*.c", "clib/*.*", "clib/examples/*", "plugins/*/*.c", "tools/*", "man/*"]
@@ -88,9 +89,8 @@ def missing_paths(page: Path) -> Iterator[str]:
     """The paths of a page, relative to the repository's top, at which nothing exists."""
     for number, line in prose(page):
         for path in re.findall(r"`((?:bench|crates|docs|hosts|man|packaging|tests|tools)/[\w./-]+)`", line):
-            is_of_any_crate = "NAME" in path
-            is_built = "/out/" in path
-            if not (is_of_any_crate or is_built or (TOP / path).exists()):
+            # A path of any crate, or of what is built, need not be there.
+            if "NAME" not in path and "/out/" not in path and not (TOP / path).exists():
                 yield f"{page.name}:{number}: {path}"
 
 
@@ -331,19 +331,10 @@ def known() -> set[str]:
     return words_of(re.sub(COMMENT, "", "\n".join(sources().values()))) | NOT_OF_THE_SOURCES
 
 
-def known_to_maintainers() -> set[str]:
-    """The names that a page for maintainers may have."""
-    return known() | words_of_scripts()
-
-
 def edits() -> dict[str, str]:
     """The text of each edit, by its path from the repository's top."""
     found = ("crates/*/must-fail/*.edit", "crates/*/edits.txt", "crates/*/planted.txt", "tests/planted/*.txt")
     return texts_of([file for pattern in found for file in TOP.glob(pattern)])
-
-
-def in_docs(names: list[str]) -> list[Path]:
-    return [TOP / "docs" / name for name in names]
 
 
 class Check(NamedTuple):
@@ -368,8 +359,8 @@ CHECKS = [
     Check("no source shows this block", missing_blocks, PAGES, lambda: (sources() | edits() | heads_of(sources()),)),
     Check("no crate has this file", unknown_files, PAGES, lambda: ([*sources(), *edits()],)),
     Check("the file beside this name does not have it", misplaced_names, PAGES, lambda: (sources() | texts_of(TOP.glob("tests/*.py")),)),
-    Check("no source has this name", unknown_names, in_docs(PROMISES), lambda: ([*sources()], known())),
-    Check("nothing has this name", unknown_names, in_docs(MAINTAINERS), lambda: ([*sources()], known_to_maintainers(), SKIPPED)),
+    Check("no source has this name", unknown_names, PROMISES, lambda: ([*sources()], known())),
+    Check("nothing has this name", unknown_names, MAINTAINERS, lambda: ([*sources()], known() | words_of_scripts(), SKIPPED)),
     Check("no public function has this signature of docs/EMBEDDING.md", unknown_signatures),
     Check("the kit of the Makefile is missing", pages_of_another_kit),
     Check("the Makefile's LIBRARIES lack this one", libraries_left_out),

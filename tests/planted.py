@@ -243,11 +243,6 @@ def line_of(row: PlantedRow) -> str:
     return f"{sum_of(row)}  {row.bug}: {row.by} {row.test}"
 
 
-def noted() -> set[str]:
-    """The lines of SUMS."""
-    return {*SUMS.read_text(encoding="utf-8").splitlines()} if SUMS.exists() else set()
-
-
 def note() -> None:
     """Writes the checksums as they are now."""
     lines = sorted((line_of(row) for row in planted_rows(TOP) if row.of == "tests"), key=lambda it: it.split("  ")[1])
@@ -260,7 +255,7 @@ def rows_of(given: argparse.Namespace) -> list[PlantedRow]:
     if strangers := set(given.bugs) - {it.bug for it in rows}:
         sys.exit(f"planted.py: no bug {', '.join(sorted(strangers))}")
     rows = [it for it in rows if (not given.bugs or it.bug in given.bugs) and (it.of == "tests" or not given.unbuilt and not given.changed)]
-    known = noted()
+    known = {*SUMS.read_text(encoding="utf-8").splitlines()}
     return [it for it in rows if line_of(it) not in known] if given.changed else rows
 
 
