@@ -14,10 +14,10 @@ from pathlib import Path
 import audit_cases
 import processes
 import suite
-from blocks import SHOWN, Page, shows
+from blocks import SHOWN, Page, ran, shows
 from checks import equal, holds
 from expected import AUDITS
-from suite import PROGRAM, each, program_on_path
+from suite import PROGRAM, each
 
 PAGE, DOORS = Page("docs/FORMATS.md"), Page("docs/DOORS.md")
 BOOK = PAGE.block("The account book", "toml")
@@ -95,7 +95,7 @@ def many_logs(folder: str) -> None:
     ]):
         with trial:
             (here / "b.log").write_text(log)
-            answer = processes.ran(["sh", "-c", commands], cwd=folder, env=program_on_path(folder))
+            answer = ran(folder, commands)
             equal((answer.status, sorted(answer.output.splitlines()), answer.faults), (status, lines, ""), commands)
 
 
@@ -196,9 +196,8 @@ def who_has_logged_in(folder: str) -> None:
     equal([let_in(refused, needs_code) for needs_code in (False, True)], [[], []], "a login that is refused")
     equal(let_in(["S PASS 59 0"], True), [], "a code without a login")
     name, other = "a,b=2C %41", "=3D,c"
-    enrol = [PROGRAM, "enrol", "--book", f"{folder}/book.toml", "--name", name]
-    equal(processes.ran(enrol, "pencil\n"), (0, f"enrolled {name}\n", ""), "an account with a comma and an equals sign")
     book = Path(folder, "book.toml")
+    suite.enrols(book, name)
     book.write_text(book.read_text().replace("act_as = []", f'act_as = ["{other}"]'))
     for trial, (acts_as, names) in each([([], (name, name)), (["--as", other], (name, other))]):
         with trial:
