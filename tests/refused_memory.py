@@ -11,7 +11,7 @@ import pathlib
 import shims
 import suite
 from checks import equal, holds
-from command_table import Command, book_of, commands, is_done, is_front, is_kept, left, new_book, prepare, printed_begins_clean, run
+from command_table import Command, book_of, commands, is_done, is_front, is_kept, left, new_book, prepare, printed_begins_clean
 from expected import AUDITS, DATA
 from processes import ran
 from suite import PROGRAM, each, fault_text, within
@@ -20,10 +20,11 @@ from suite import PROGRAM, each, fault_text, within
 FAULT = fault_text("no memory")
 
 
-def run_refused(folder: str, words: list, shim: str, refused: int) -> tuple[int, str, str, int]:
-    """The status, output and faults of a command for which this request was refused, and how many requests it made."""
-    environment = {"LD_PRELOAD": shim, "REFUSED": str(refused)}
-    status, output, said = ran([PROGRAM, *words], cwd=folder, env=environment)
+def run_refused(folder: str, words: list, refused: int, data: str = "", **lasting: str) -> tuple[int, str, str, int]:
+    """The status, output and faults of a command with this input for which this request was refused, with all after it if `lasting` says
+    so by a variable of the shim; and how many requests it made."""
+    environment = {**os.environ, "LD_PRELOAD": shims.built("refuse_memory"), "REFUSED": str(refused), **lasting}
+    status, output, said = ran(words, data, cwd=folder, env=environment)
     faults, requests = shims.requests(said, words, "request", refused, "status", status)
     return status, output, faults, requests
 
@@ -31,13 +32,12 @@ def run_refused(folder: str, words: list, shim: str, refused: int) -> tuple[int,
 def each_is_told(folder: str, words: list, printed: str) -> int:
     """A command prints this, and only its fault if a request that it needs is refused. It needs more than half of its requests. Returns how
     many it needs."""
-    shim = shims.built("refuse_memory")
-    *whole, requests = run_refused(folder, words, shim, 0)
+    *whole, requests = run_refused(folder, [PROGRAM, *words], 0)
     equal(whole, [0, printed, ""], words)
     needed = 0
     for trial, number in each(range(1, requests + 1)):
         with trial:
-            *told, _ = run_refused(folder, words, shim, number)
+            *told, _ = run_refused(folder, [PROGRAM, *words], number)
             if told != whole:
                 equal(told, [3, "", FAULT], words, number)
                 needed += 1
@@ -59,14 +59,15 @@ def audits_are_refused(folder: str) -> None:
 
 def reports_are_refused(folder: str) -> None:
     """A report prints whole rows, and then the fault. Some requests are refused after the first row."""
-    log, shim = DATA / "reports" / "incident.log", shims.built("refuse_memory")
-    words, rows = ["report", "--book", log.with_suffix(".toml"), "--log", log], log.with_suffix(".rows").read_text().splitlines(True)
-    *whole, requests = run_refused(folder, words, shim, 0)
+    log = DATA / "reports" / "incident.log"
+    words, rows = [PROGRAM, "report", "--book", log.with_suffix(".toml"), "--log", log], log.with_suffix(".rows").read_text()
+    rows = rows.splitlines(True)
+    *whole, requests = run_refused(folder, words, 0)
     equal(whole, [0, "".join(rows) + "clean sessions=23 accepted=5 codes=3\n", ""], "the report")
     printed = set()
     for trial, number in each(range(1, requests + 1)):
         with trial:
-            *told, _ = run_refused(folder, words, shim, number)
+            *told, _ = run_refused(folder, words, number)
             if told != whole:
                 printed.add(told[1].count("\n"))
                 equal(told, [3, "".join(rows[:told[1].count("\n")]), FAULT], number)
@@ -79,25 +80,20 @@ def upgrades_are_refused(folder: str) -> None:
     each_is_told(folder, ["upgrade", "--log", "log"], "SCRAMLOG 2\n1 S BUSY\n1 E\n2 E\n")
 
 
-def refused(command: Command, folder: str, shim: str, number: int, lasting: dict[str, str]) -> tuple[tuple[int, str, str], int]:
-    """The answer of a command for which the request with this number is refused, with all after it if `lasting` says so by a variable of
-    the shim. Also how many requests it made."""
-    prepare(folder, command)
-    status, printed, faults = run(command, folder, env={**os.environ, "LD_PRELOAD": shim, "REFUSED": str(number), **lasting})
-    faults, requests = shims.requests(faults, command.name, "request", number, "status", status)
-    return (status, printed, faults), requests
-
-
-def requests_told(command: Command, here: str, shim: str, lasting: dict[str, str]) -> tuple[int, int]:
+def requests_told(command: Command, here: str, lasting: dict[str, str]) -> tuple[int, int]:
     """Refuses each request of a command in turn, by itself or with all after it. Returns how many requests there are, and how many of
     them are told."""
-    whole, requests = refused(command, here, shim, 0, lasting)
-    equal(whole, (0, command.printed, ""), command.name)
+    def refused(number: int) -> tuple[int, str, str, int]:
+        prepare(here, command)
+        return run_refused(here, command.in_folder(here), number, command.text, **lasting)
+
+    *whole, requests = refused(0)
+    equal(whole, [0, command.printed, ""], command.name)
     holds(is_done(here, command), "the command has not saved all", command.name, whole)
     told = 0
     for trial, number in each(range(1, requests + 1)):
         with trial:
-            answer, _ = refused(command, here, shim, number, lasting)
+            *answer, _ = refused(number)
             what = (command.name, number, *lasting, answer)
             holds(is_kept(here, command, answer[1]), what, "the book is not whole, or lacks what was reported", book_of(here))
             equal(left(here), set(), what, "the files that are left")
@@ -112,10 +108,10 @@ def requests_told(command: Command, here: str, shim: str, lasting: dict[str, str
 def commands_are_refused(folder: str) -> None:
     """Whichever request of a command is refused, by itself or with all after it, it ends well, or with a fault after what it could print;
     what it reported is saved."""
-    here, shim, told, count = str(within(folder, "files")), shims.built("refuse_memory"), 0, 0
+    here, told, count = str(within(folder, "files")), 0, 0
     for trial, (command, lasting) in each(itertools.product([*commands(), new_book()], [{}, {"LASTING": "1"}])):
         with trial:
-            requests, of_command = requests_told(command, here, shim, lasting)
+            requests, of_command = requests_told(command, here, lasting)
             count, told = count + requests, told + of_command
     holds(2 * told > count, "at most half of the requests are told", told, count)
 
