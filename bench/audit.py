@@ -137,20 +137,26 @@ def words_of(command: str, program: str, folder: pathlib.Path, text: str, log: p
     return [program, command, "--book", str(folder / "book"), "--log", str(log)]
 
 
-def best(program: str, folder: pathlib.Path, text: str, log: str, want: str, command: str = "audit") -> float:
-    """The least processor time, in seconds, of several audits or reports of this log."""
+def least(program: str, folder: pathlib.Path, text: str, log: str, wanted: dict[str, str]) -> dict[str, float]:
+    """The least processor time, in seconds, of each of these commands on this log, which has to print what stands beside it. They take
+    turns, so that what else the machine does falls on all of them."""
     (folder / "log").write_text(log)
-    words = words_of(command, program, folder, text, folder / "log")
-    return min(processor(words, exactly(want)) for _ in range(TURNS))
+    taken: dict[str, list[float]] = {command: [] for command in wanted}
+    for _ in range(TURNS):
+        for command, want in wanted.items():
+            taken[command].append(processor(words_of(command, program, folder, text, folder / "log"), exactly(want)))
+    return {command: min(times) for command, times in taken.items()}
 
 
-def reports(program: str, folder: pathlib.Path, text: str, log: str, want: str, audited: float) -> None:
-    """Times reports of a log of version 1, and compares that with the time of its audits."""
+def audit_and_report(program: str, folder: pathlib.Path, text: str, log: str, want: str, what: str) -> float:
+    """Times audits and reports of a log of version 1, and prints how they compare. Returns the time of an audit."""
     all_rows = rows(log)
-    taken = best(program, folder, text, log, all_rows + want, "report")
-    count = all_rows.count("\n")
-    share = 100 * audited / taken
-    print(f"its report: {count} rows, {taken:.2f} s, {count / taken:.0f} rows a second, {share:.0f} % as many lines a second")
+    taken = least(program, folder, text, log, {"audit": want, "report": all_rows + want})
+    lines, count = log.count("\n"), all_rows.count("\n")
+    print(f"{what}, {lines} lines, {len(log)} bytes: {taken['audit']:.3f} s, {lines / taken['audit']:.0f} lines a second")
+    share = 100 * taken["audit"] / taken["report"]
+    print(f"its report: {count} rows, {taken['report']:.3f} s, {count / taken['report']:.0f} rows a second, {share:.0f} % of that speed")
+    return taken["audit"]
 
 
 def main() -> None:
@@ -160,24 +166,19 @@ def main() -> None:
         folder = pathlib.Path(name)
         one = book(["user"], False)
         log, want = of_logins(LOGINS)
-        taken = best(program, folder, one, log, want)
-        lines = log.count("\n")
-        print(f"{LOGINS} logins, {lines} lines, {len(log)} bytes: {taken:.2f} s, {LOGINS / taken:.0f} logins a second")
+        taken = audit_and_report(program, folder, one, log, want, f"{LOGINS} logins")
+        print(f"{LOGINS / taken:.0f} logins a second")
         for open_sessions in (1, 64):
             second, counts = at_once(LOGINS, open_sessions)
-            share = 100 * taken / best(program, folder, one, second, counts)
+            share = 100 * taken / least(program, folder, one, second, {"audit": counts})["audit"]
             print(f"version 2, {open_sessions} open at a time: {share:.0f} % as many lines a second")
         for command in ("audit", "report"):
             piped, (short, counts) = words_of(command, program, folder, one, "/dev/stdin"), of_logins(FEW)
             front = command == "report"
             few, many = peak(piped, short, rows(short) * front + counts), peak(piped, log, rows(log) * front + want)
             print(f"peak memory of {command}: {few} KiB for {FEW} logins, {many} KiB for {LOGINS}, ratio {many / few:.3f}")
-        reports(program, folder, one, log, want, taken)
         log, want = of_codes(names)
-        taken = best(program, folder, book(names, True), log, want)
-        lines = log.count("\n")
-        print(f"{ACCOUNTS} accounts, {ACCOUNTS * CODES} codes, {lines} lines: {taken:.2f} s, {lines / taken:.0f} lines a second")
-        reports(program, folder, book(names, True), log, want, taken)
+        audit_and_report(program, folder, book(names, True), log, want, f"{ACCOUNTS} accounts, {ACCOUNTS * CODES} codes")
 
 
 if __name__ == "__main__":
